@@ -1,29 +1,10 @@
 -- What follows the first two bytes of a certified geometry: the rest of its header, and its body or its end.
-use Rattle.std.proofs.Common.{◌≡◌, ℕ, ◌+◌, ◌%◌, ◌<◌, ◌≤◌, ◌^◌, ℤ, Bool, true, false, cond, length, Option, Some, None, refl, sym, ap, ◌∙◌, subst, Ok, Err, arith}
-use Rattle.twkb_num.specs.Cursor.{Reading, passed, IsMoved}
-use Rattle.twkb_head.specs.declared.kinds.Kind.TheVariants.{Point}
-use Rattle.twkb_head.specs.declared.raw.Fields.{Fields}
+use Rattle.twkb_body.proofs.Prelude.{◌≡◌, ℕ, ◌+◌, ◌%◌, ◌<◌, ◌≤◌, ◌^◌, ℤ, Bool, true, false, cond, length, Option, Some, None, refl, sym, ap, ◌∙◌, subst, Ok, Err, arith, Reading, passed, IsMoved, Point, Fields, Malformed, RawRange, Head, SizeField, BoxField, Axes, Kind, has_ids, is_multi, Bounds, Vertex, IsHeadAt, BeginsHead, ReadsHead, head_said, raw_bounds, flat_box, ends_of, Answer, number_at, head_ok, head_moved, head_exact, begins_goes_on, flat_fields, number_stops, x_stops, y_stops, flat_read, size_said, Geometry, SkipsSoundly, HasCome, IsBehind, Entered, hop_of, flat_axes, full_head}
 use Rattle.twkb_head.specs.declared.read.Begun.{Begun}
-use Rattle.twkb_head.specs.declared.refusal.Malformed.{Malformed}
-use Rattle.twkb_head.specs.declared.raw.RawRange.{RawRange}
-use Rattle.twkb_head.specs.declared.header.Head.{Head}
-use Rattle.twkb_head.specs.declared.header.SizeField.{SizeField}
-use Rattle.twkb_head.specs.declared.header.BoxField.{BoxField}
-use Rattle.twkb_head.specs.declared.raw.Axes.{Axes}
-use Rattle.twkb_head.specs.declared.kinds.Kind.{Kind}
 use Rattle.std.proofs.Math.Bool.{and-false}
-use Rattle.twkb_head.specs.Header.{has_ids, is_multi}
-use Rattle.twkb_head.specs.declared.boxes.Bounds.{Bounds}
-use Rattle.twkb_head.specs.declared.boxes.Vertex.{Vertex}
-use Rattle.twkb_head.specs.Head.{IsHeadAt}
-use Rattle.twkb_head.specs.Raw.{BeginsHead, ReadsHead, head_said, raw_bounds, flat_box, ends_of}
-use Rattle.twkb_head.specs.Shared.Reader.{Answer, number_at, range_from}
+use Rattle.twkb_head.specs.Shared.Reader.{range_from}
 use Rattle.twkb_head.specs.Devices.HeadReader.{rest_at}
-use Rattle.twkb_head.proofs.HeadLaws.{head_ok, head_moved, head_exact}
-use Rattle.twkb_head.proofs.HeadSteps.{begins_goes_on, flat_fields, number_stops, x_stops, y_stops, flat_read, size_said}
-use Rattle.twkb_body.specs.Geometry.{Geometry}
-use Rattle.twkb_body.specs.Visit.{SkipsSoundly}
-use Rattle.twkb_body.specs.Devices.Skimmed.{HasCome, HasRead, IsBehind, Entered, hop_of, flat_axes, full_head}
+use Rattle.twkb_body.specs.Devices.Skimmed.{HasRead}
 use Rattle.twkb_body.proofs.Headers.{IsSizedEnd, sized_end}
 use Rattle.twkb_body.proofs.HeadStands.{header_starts, hop_fits, hop_within, enter_hops}
 

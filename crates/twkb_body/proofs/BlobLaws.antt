@@ -1,24 +1,9 @@
 -- The reader of blobs agrees with the definitions, and the laws of blobs.
-use Rattle.std.proofs.Common.{◌≡◌, ◌≢◌, ℕ, zero, suc, ◌+◌, ◌-◌, ◌%◌, ◌≤◌, Bool, true, false, cond, List, [], ◌∷◌, ◌++◌, Some, None, Ok, Err, ◌⊎◌, inl, inr, ⊎_elim, refl, sym, ap, subst, ◌∙◌, arith}
-use Rattle.std.proofs.lemmas.List.{append-nil, append_cancel_right}
-use Rattle.twkb_head.specs.declared.kinds.Kind.TheVariants.{GeometryCollection}
-use Rattle.twkb_head.specs.declared.refusal.Why.{Why}
-use Rattle.twkb_head.specs.declared.refusal.Why.TheVariants.{Cut, Varint, Kind as BadKind, Depth, Range}
-use Rattle.twkb_num.specs.Varint.{IsCut, IsLong}
-use Rattle.twkb_head.specs.BegunHeader.{Field, type_field, byte_field, number_field, coordinate_field, IsField, deepest}
-use Rattle.twkb_head.specs.Shared.Plan.{Request, type_byte, byte, number, coordinate, field_of, judge, judge_kind, kind_of_code, cut_byte, cut_field}
-use Rattle.twkb_head.proofs.Spelling.{Fault, fault}
-use Rattle.twkb_head.proofs.FieldCuts.{ok_is, err_is, byte_fails, number_fails, cut_off, too_long}
-use Rattle.twkb_head.proofs.HeadLaws.{kind_fails}
-use Rattle.twkb_head.proofs.Heads.{kind_code}
-use Rattle.twkb_head.proofs.HeadBack.{none_kind}
-use Rattle.twkb_head.proofs.Plans.{IsViableIn, IsRefused, no_field, no_value, run_takes, run_again, run_stops, run_fails, run_goes_on, run_uncut, run_refused, run_judged}
-use Rattle.twkb_body.specs.Geometry.{Geometry}
-use Rattle.twkb_body.specs.Encoding.{Blob}
-use Rattle.twkb_body.specs.Begun.{IsBegun, IsViable}
-use Rattle.twkb_head.proofs.Combinators.{PlanLaws}
+use Rattle.twkb_body.proofs.Prelude.{◌≡◌, ◌≢◌, ℕ, zero, suc, ◌+◌, ◌-◌, ◌%◌, ◌≤◌, Bool, true, false, cond, List, [], ◌∷◌, ◌++◌, Some, None, Ok, Err, inl, inr, ⊎_elim, refl, sym, ap, subst, ◌∙◌, arith, append-nil, append_cancel_right, GeometryCollection, Why, Cut, Varint, Depth, Range, IsCut, IsLong, Field, type_field, byte_field, number_field, coordinate_field, IsField, deepest, Request, type_byte, byte, number, field_of, judge, judge_kind, kind_of_code, cut_byte, cut_field, Fault, fault, ok_is, err_is, byte_fails, number_fails, cut_off, too_long, kind_fails, kind_code, none_kind, IsViableIn, IsRefused, no_field, no_value, run_takes, run_again, run_stops, run_fails, run_goes_on, run_uncut, run_refused, run_judged, Geometry, Blob, IsBegun, IsViable, PlanLaws, BeginsWithNoBlob, IsWrong}
+use Rattle.std.proofs.Common.{◌⊎◌}
+use Rattle.twkb_head.specs.declared.refusal.Why.TheVariants.{Kind as BadKind}
+use Rattle.twkb_head.specs.Shared.Plan.{coordinate}
 use Rattle.twkb_body.proofs.GeometryPlan.{geometry_plan, read_at, read_blob}
-use Rattle.twkb_body.specs.Malformation.{BeginsWithNoBlob, IsWrong}
 use Rattle.twkb_body.proofs.Geometries.{blob_laws}
 
 -- a blob has all levels but its own below it

@@ -1,16 +1,5 @@
 -- Bodies: the laws of the plans that read them.
-use Rattle.std.proofs.Common.{◌≡◌, ℕ, ◌+◌, Bool, true, false, List, [], ◌∷◌, ◌++◌, length, flat_map, ℤ, Option, inl, inr, refl, sym, ap, subst, ◌∙◌, append_assoc, arith}
-use Rattle.twkb_num.specs.Varint.{Spells, IsSigned}
-use Rattle.twkb_head.specs.Parts.{Times, Announced}
-use Rattle.twkb_head.specs.Header.{Header, axes_of, is_multi}
-use Rattle.twkb_head.specs.BegunHeader.{is_collection, Field, number_field, IsFewer}
-use Rattle.twkb_head.specs.Shared.Plan.{Plan, bind}
-use Rattle.twkb_head.proofs.Combinators.{PlanLaws, restated, Chain, chained, BegunChain, behind_again, Made, Measured, bind_laws, done_laws, measure_laws, optional_laws, AreAll}
-use Rattle.twkb_head.proofs.Leaves.{IsDue, IsNumber, number_laws, signeds_laws}
-use Rattle.twkb_body.specs.Geometry.{Lengths, PointValue, PolygonValue, points_of, member_count, none, Members as MemberTrees}
-use Rattle.twkb_body.specs.Encoding.{IsPart, IsList, IsNumbers, IsShape, IsBody, SameForm}
-use Rattle.twkb_body.specs.Begun.{IsBegunList, count_due, id_due, member_due, IsBegunPart, IsBegunNumbers, SumsFit}
-use Rattle.twkb_body.specs.Devices.Body.{ListHead, zeros, ring_sums, absolute, Body, parts_body, members_body, part_body, no_body}
+use Rattle.twkb_body.proofs.Prelude.{◌≡◌, ℕ, ◌+◌, Bool, true, false, List, [], ◌∷◌, ◌++◌, length, flat_map, ℤ, Option, inl, inr, refl, sym, ap, subst, ◌∙◌, append_assoc, arith, Spells, IsSigned, Times, Announced, Header, axes_of, is_multi, is_collection, Field, number_field, IsFewer, Plan, bind, PlanLaws, restated, Chain, chained, BegunChain, behind_again, Made, Measured, bind_laws, done_laws, measure_laws, optional_laws, AreAll, IsDue, IsNumber, number_laws, signeds_laws, Lengths, PointValue, PolygonValue, points_of, member_count, none, Members as MemberTrees, IsPart, IsList, IsNumbers, IsShape, IsBody, SameForm, IsBegunList, count_due, id_due, member_due, IsBegunPart, IsBegunNumbers, SumsFit, ListHead, zeros, ring_sums, absolute, Body, parts_body, members_body, part_body, no_body}
 use Rattle.twkb_body.proofs.GeometryPlan.{list_plan, shape_plan, after_count, body_plan}
 use Rattle.twkb_body.proofs.PartPlans.{BegunFrom, BegunMembers, members_laws, parts}
 use Rattle.twkb_body.proofs.Sums.{FitRings, FitPolygons, AreSums, polygons_fit, fit_polygons, sums_fit, fit_sums, absolute_is, is_absolute, sums_accumulate, accumulated_fit}

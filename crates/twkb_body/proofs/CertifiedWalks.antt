@@ -1,16 +1,5 @@
 -- Walks over certified bytes: points are shown, and those after them are passed, if no point changes the state any more.
-use Rattle.std.proofs.Common.{◌≡◌, ℕ, ◌+◌, ◌-◌, ◌<◌, ◌≤◌, Bool, true, false, List, Ok, refl, sym, ap, subst, ◌∙◌, arith}
-use Rattle.std.specs.Borrow.{GName}
-use Rattle.twkb_num.specs.Cursor.{Reading}
-use Rattle.twkb_head.specs.declared.header.Head.{Head}
-use Rattle.twkb_head.specs.Header.{Header}
-use Rattle.twkb_head.specs.Shared.Reader.{Reader}
-use Rattle.twkb_body.specs.declared.trail.Trail.{Trail}
-use Rattle.twkb_body.specs.Geometry.{PointValue}
-use Rattle.twkb_body.specs.Devices.BodyReader.{point_at}
-use Rattle.twkb_body.specs.Devices.Inside.{of_head}
-use Rattle.twkb_body.specs.Devices.PointReader.{Stage, IsBefore, HasRead, IsWalkingOn, points_at}
-use Rattle.twkb_body.specs.Devices.Walk.{IsPoint, IsWalked, IsStill, lasts_from}
+use Rattle.twkb_body.proofs.Prelude.{◌≡◌, ℕ, ◌+◌, ◌-◌, ◌<◌, ◌≤◌, Bool, true, false, List, Ok, refl, sym, ap, subst, ◌∙◌, arith, GName, Reading, Head, Header, Reader, Trail, PointValue, point_at, of_head, Stage, IsBefore, HasRead, IsWalkingOn, points_at, IsPoint, IsWalked, IsStill, lasts_from}
 use Rattle.twkb_body.proofs.Runs.{IsRun, run_none, run_goes_on}
 use Rattle.twkb_body.proofs.Settling.{ArePassed, axes_some, run_next, run_passed, run_rest, run_then}
 use Rattle.twkb_body.proofs.WalkReads.{beside, fold_beside, walked_beside, walked_apart}

@@ -1,28 +1,6 @@
 -- Points as sums, coordinate by coordinate: the loop over axes.
-use Rattle.std.proofs.Common.{◌≡◌, ℕ, zero, suc, ◌+◌, ◌<◌, ◌≤◌, Bool, true, false, cond, List, [], ◌∷◌, ◌++◌, length, drop, set, map, slice_index_or, ℤ, pos, ◌+ℤ◌, Option, Some, None, is_some, option_map, Result, Ok, Err, refl, sym, ap, ap₂, subst, ◌∙◌, arith, length-append}
-use Rattle.std.proofs.lemmas.Int.{ints}
-use Rattle.twkb_num.specs.Cursor.{Reading, rest}
-use Rattle.twkb_num.specs.Units.{units_of}
-use Rattle.twkb_num.specs.Varint.{zigzag_value, sum_of_groups}
-use Rattle.twkb_head.specs.declared.boxes.Vertex.{Vertex}
-use Rattle.twkb_head.specs.declared.refusal.Malformed.{Malformed}
-use Rattle.twkb_head.specs.declared.refusal.Why.{Why}
-use Rattle.twkb_head.specs.declared.refusal.Why.TheVariants.{Range}
-use Rattle.twkb_head.specs.BegunHeader.{coordinate_field, IsField}
-use Rattle.twkb_head.specs.Header.{Header, axes_of}
-use Rattle.twkb_head.specs.Head.{m_axis}
-use Rattle.twkb_head.specs.Shared.Plan.{coordinate as coordinate_request, cut_field, fits, judge, done}
-use Rattle.twkb_head.specs.Shared.Reader.{Answer, read_judged, read_field, read, signed_at, coordinate_at, Fails}
-use Rattle.twkb_head.proofs.FieldCuts.{field_takes}
-use Rattle.twkb_head.proofs.Readings.{ok_not_err, one_answer}
-use Rattle.twkb_head.proofs.Steps.{coordinate_no_signed, coordinate_ok, coordinate_refused}
-use Rattle.twkb_head.proofs.Loops.{IsLoop, loop_goes_on, loop_fails, loop_ends}
-use Rattle.twkb_body.specs.declared.trail.Trail.{Trail}
-use Rattle.twkb_body.specs.Geometry.{PointValue, coordinate, vertex_of}
-use Rattle.twkb_body.specs.Devices.Body.{first_of, behind, add, place, map_from}
-use Rattle.twkb_body.specs.Devices.BodyReader.{point_at}
-use Rattle.twkb_body.specs.Devices.Ranges.{raw_of}
-use Rattle.twkb_body.specs.Devices.Walk.{HaveAxes, lasts_from, IsWalked}
+use Rattle.twkb_body.proofs.Prelude.{◌≡◌, ℕ, zero, suc, ◌+◌, ◌<◌, ◌≤◌, Bool, true, false, cond, List, [], ◌∷◌, ◌++◌, length, drop, set, map, slice_index_or, ℤ, pos, ◌+ℤ◌, Option, Some, None, is_some, option_map, Result, Ok, Err, refl, sym, ap, ap₂, subst, ◌∙◌, arith, length-append, ints, Reading, rest, units_of, zigzag_value, sum_of_groups, Vertex, Malformed, Why, Range, coordinate_field, IsField, Header, axes_of, m_axis, cut_field, fits, judge, done, Answer, read_judged, read_field, read, signed_at, coordinate_at, Fails, field_takes, ok_not_err, one_answer, coordinate_no_signed, coordinate_ok, coordinate_refused, IsLoop, loop_goes_on, loop_fails, loop_ends, Trail, PointValue, coordinate, vertex_of, first_of, behind, add, place, map_from, point_at, raw_of, HaveAxes, lasts_from, IsWalked}
+use Rattle.twkb_head.specs.Shared.Plan.{coordinate as coordinate_request}
 
 -- Z and M are among the axes if they have a precision
 z_among : (z m : Option ℕ) → is_some z ≡ true → 2 < 2 + cond (is_some z) 1 0 + cond (is_some m) 1 0

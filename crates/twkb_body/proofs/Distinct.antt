@@ -1,16 +1,9 @@
 -- The ids of a list are distinct if the neighbors of the sorted list differ.
-use Rattle.std.proofs.Common.{◌≡◌, ◌≢◌, ℕ, zero, suc, ◌+◌, ◌<◌, Bool, true, false, ℤ, ◌≤ℤ◌, ◌<ℤ◌, Ordering, Less, Equal, Greater, List, [], ◌∷◌, length, get_or, AllPairs, refl, sym, arith}
-use Rattle.std.specs.List.{IsDistinct}
+use Rattle.twkb_body.proofs.Prelude.{◌≡◌, ◌≢◌, ℕ, zero, suc, ◌+◌, ◌<◌, Bool, true, false, ℤ, ◌≤ℤ◌, ◌<ℤ◌, Ordering, Less, Equal, Greater, List, [], ◌∷◌, length, get_or, AllPairs, refl, sym, arith, IsDistinct, int_cmp, int_eq, is_lt, MatchOrdering, ints, All-from_recursion, recursion_from_All, AllPairs-cons, sorted_far, ranks_by, Decides-int_eq, Decides-like, not_from_Decides, same_from_decides}
 use Rattle.std.specs.List.Sorted.{IsSorted, IsPermutation}
-use Rattle.std.specs.Ordering.{int_cmp, int_eq, is_lt, MatchOrdering}
 use Rattle.std.specs.Cmp.{int_ranks}
 use Rattle.std.proofs.lemmas.Cmp.{int_cmp_total}
-use Rattle.std.proofs.lemmas.Int.{ints}
 use Rattle.std.proofs.lemmas.Map.Keys.{IsDistinct-IsPermutation}
-use Rattle.std.proofs.lemmas.List.Elements.{All-from_recursion, recursion_from_All}
-use Rattle.std.proofs.lemmas.List.Kept.{AllPairs-cons}
-use Rattle.std.proofs.lemmas.List.Sorted.{sorted_far, ranks_by}
-use Rattle.std.proofs.lemmas.Bool.Decides.{Decides-int_eq, Decides-like, not_from_Decides, same_from_decides}
 
 pub pairs_from_distinct : (xs : List ℤ) → IsDistinct int_eq xs → AllPairs (λ a b. a ≢ b) xs
 unfolding IsDistinct

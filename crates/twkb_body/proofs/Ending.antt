@@ -1,23 +1,7 @@
 -- A geometry whose header was read ends as its body does, and then its own claims are judged.
-use Rattle.std.proofs.Common.{◌≡◌, ℕ, suc, ◌+◌, ◌-◌, ◌≤◌, Bool, true, false, is_some, Result, Ok, Err, refl, sym, ap, subst, ◌∙◌, arith}
-use Rattle.twkb_num.specs.Cursor.{Reading, rest, passed, IsMoved, IsSound}
-use Rattle.twkb_head.specs.declared.header.Head.{Head}
-use Rattle.twkb_head.specs.BegunHeader.{deepest, is_collection}
-use Rattle.twkb_head.specs.Head.{IsHeadAt}
-use Rattle.twkb_head.proofs.HeadBack.{head_value}
+use Rattle.twkb_body.proofs.Prelude.{◌≡◌, ℕ, suc, ◌+◌, ◌-◌, ◌≤◌, Bool, true, false, is_some, Result, Ok, Err, refl, sym, ap, subst, ◌∙◌, arith, Reading, rest, passed, IsMoved, IsSound, Head, deepest, is_collection, IsHeadAt, head_value, Stopped, Geometry, vertices, Reach, reach_of, HasLongList, Body, geometry_at, members_under, Found, named, size_judged, IsFound, Notes, HasManyIdsAfterCount, Inside, of_head, body_behind, shape_behind, first_inside, IsInside, Refused, first, HasStopped, ReadsGeometry, WantsBehind, WantsIn, WantsInside}
 use Rattle.twkb_body.specs.declared.found.Halted.{Halted}
 use Rattle.twkb_body.specs.declared.found.Pass.{Pass}
-use Rattle.twkb_body.specs.declared.stopped.Stopped.{Stopped}
-use Rattle.twkb_body.specs.Geometry.{Geometry, vertices}
-use Rattle.twkb_body.specs.Extent.{Reach, reach_of}
-use Rattle.twkb_body.specs.Audited.{HasLongList}
-use Rattle.twkb_body.specs.Devices.Body.{Body}
-use Rattle.twkb_body.specs.Devices.BodyReader.{geometry_at, members_under}
-use Rattle.twkb_body.specs.Devices.Found.{Found, named, size_judged, IsFound, Notes}
-use Rattle.twkb_body.specs.Devices.IdLists.{HasManyIdsAfterCount}
-use Rattle.twkb_body.specs.Devices.Inside.{Inside, of_head, body_behind, shape_behind, first_inside, IsInside}
-use Rattle.twkb_body.specs.Devices.Pass.{Refused, first}
-use Rattle.twkb_body.specs.Devices.Stops.{HasStopped, ReadsGeometry, WantsBehind, WantsIn, WantsInside}
 use Rattle.twkb_body.proofs.GeometrySteps.{shape_body, body_gives, body_fails, body_of_head, geometry_found}
 use Rattle.twkb_body.proofs.MemberSteps.{collection_at, collection_body, long_list_in}
 use Rattle.twkb_body.proofs.Stopping.{stops_outside, stops_through}

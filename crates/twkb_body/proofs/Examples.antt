@@ -1,15 +1,8 @@
 -- Examples of blobs that are read, and of bytes where reading fails.
-use Rattle.std.proofs.Common.{◌≡◌, ℕ, List, [], ◌∷◌, None, Ok, Err, pos, false, refl, sym, subst, ◌∙◌, arith, ◌-◌}
-use Rattle.twkb_head.specs.BegunHeader.{deepest, type_field, byte_field, coordinate_field, type_due}
-use Rattle.twkb_head.proofs.Spelling.{fault}
-use Rattle.twkb_body.specs.Geometry.{Geometry, geometry, none, more}
-use Rattle.twkb_body.specs.Encoding.{Blob}
-use Rattle.twkb_body.specs.Begun.{IsBegun, header_begun}
+use Rattle.twkb_body.proofs.Prelude.{◌≡◌, ℕ, List, [], ◌∷◌, None, Ok, Err, pos, false, refl, sym, subst, ◌∙◌, arith, ◌-◌, deepest, type_field, byte_field, coordinate_field, type_due, fault, Geometry, geometry, none, more, Blob, IsBegun, header_begun, append-nil, Point, LineString, GeometryCollection, Cut, Range}
 use Rattle.twkb_body.proofs.GeometryPlan.{read_blob, geometry_plan}
 use Rattle.twkb_body.proofs.BlobLaws.{read_takes, read_fails}
-use Rattle.std.proofs.lemmas.List.{append-nil}
-use Rattle.twkb_head.specs.declared.kinds.Kind.TheVariants.{Point, LineString, GeometryCollection}
-use Rattle.twkb_head.specs.declared.refusal.Why.TheVariants.{Cut, Kind as BadKind, Range}
+use Rattle.twkb_head.specs.declared.refusal.Why.TheVariants.{Kind as BadKind}
 
 -- the line (1 1, 5 5)
 line : Geometry

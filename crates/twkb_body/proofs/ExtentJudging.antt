@@ -1,32 +1,6 @@
 -- Boxes that are judged in raw coordinates: what a raw range holds, its span in units holds.
-use Rattle.std.proofs.Common.{◌≡◌, ℕ, ◌<◌, ◌^◌, Bool, true, false, List, [], Ok, ℤ, pos, ◌-ℤ◌, ◌<ℤ◌, unsigned_abs, Option, Some, None, is_some, IfSome, refl, ap, ap₂, subst, ◌∙◌, arith}
-use Rattle.std.specs.Prelude.{◌&&◌, option_map}
-use Rattle.std.proofs.lemmas.Int.{ints}
-use Rattle.std.proofs.Math.Nat.{one-le-pow}
-use Rattle.twkb_num.specs.Units.{units_of}
-use Rattle.twkb_num.specs.Cursor.{Reading}
-use Rattle.twkb_head.specs.declared.boxes.Span.{Span}
-use Rattle.twkb_head.specs.declared.header.BoxField.{BoxField}
-use Rattle.twkb_head.specs.declared.raw.Fields.{Fields}
-use Rattle.twkb_head.specs.declared.raw.RawBox.{RawBox}
-use Rattle.twkb_head.specs.declared.raw.RawRange.{RawRange}
-use Rattle.twkb_head.specs.Header.{Header, axes_with}
-use Rattle.twkb_head.specs.Head.{span_at, m_axis}
-use Rattle.twkb_head.specs.Raw.{ends_of, fields_box, head_said, raw_bounds}
-use Rattle.twkb_head.specs.Shared.Reader.{Reader}
-use Rattle.twkb_body.specs.declared.extents.Extents.{Extents}
-use Rattle.twkb_body.specs.declared.range.Ranges.{Ranges}
-use Rattle.twkb_body.specs.declared.trail.Trail.{Trail}
-use Rattle.twkb_body.specs.Geometry.{PointValue}
-use Rattle.twkb_body.specs.Extent.{Reach, reach_of, IsCovered}
-use Rattle.twkb_body.specs.Devices.Extents.{range_of, range_if, raw_reach, HoldsPoints}
-use Rattle.twkb_body.specs.Devices.Found.{box_judged}
-use Rattle.twkb_body.specs.Devices.Inside.{of_head}
-use Rattle.twkb_body.specs.Devices.Pass.{covers, hugs, hugs_if_both, first, false_at, is_within, is_tight}
-use Rattle.twkb_body.specs.Devices.PointReader.{HasRead}
-use Rattle.twkb_body.specs.Devices.Ranges.{range_at, span_in, scaled, reach_in_units, widened, IsHeldRaw, AreHeldRaw}
-use Rattle.twkb_body.specs.Devices.Seen.{in_units, ranges_reach}
-use Rattle.twkb_body.specs.Devices.Walk.{no_points, lasts_from, IsWalked}
+use Rattle.twkb_body.proofs.Prelude.{◌≡◌, ℕ, ◌<◌, ◌^◌, Bool, true, false, List, [], Ok, ℤ, pos, ◌-ℤ◌, ◌<ℤ◌, unsigned_abs, Option, Some, None, is_some, IfSome, refl, ap, ap₂, subst, ◌∙◌, arith, ◌&&◌, ints, one-le-pow, units_of, Reading, Span, BoxField, Fields, RawBox, RawRange, Header, axes_with, span_at, m_axis, ends_of, fields_box, head_said, raw_bounds, Reader, Extents, Ranges, Trail, PointValue, Reach, reach_of, IsCovered, range_of, range_if, raw_reach, HoldsPoints, box_judged, of_head, covers, hugs, hugs_if_both, first, false_at, is_within, is_tight, HasRead, range_at, span_in, scaled, reach_in_units, widened, IsHeldRaw, AreHeldRaw, in_units, ranges_reach, no_points, lasts_from, IsWalked}
+use Rattle.std.specs.Prelude.{option_map}
 use Rattle.twkb_body.proofs.Judging.{covers_decides, hugs_decides}
 use Rattle.twkb_body.proofs.Scales.{times_le}
 use Rattle.twkb_body.proofs.WalkReads.{beside, fold_beside, walked_apart}

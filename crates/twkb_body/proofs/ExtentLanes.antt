@@ -1,18 +1,6 @@
 -- Points in lanes of 32 bits, as distances from a base.
-use Rattle.std.proofs.Common.{◌≡◌, ℕ, zero, suc, ◌+◌, ◌%◌, ◌<◌, ◌≤◌, ◌==◌, List, [], ◌∷◌, ◌++◌, map, length, take, drop, fold, ℤ, pos, neg_ℤ, ◌+ℤ◌, ◌≤ℤ◌, Bool, true, false, Some, None, inl, inr, refl, sym, ap, ap₂, ◌∙◌, subst, arith, slice_index, w16, w32}
-use Rattle.twkb_num.specs.Varint.{IsShort, IsBrief}
-use Rattle.std.specs.Prelude.{All, if◌then◌else◌, nat_lt, min, max, Option}
-use Rattle.std.specs.Int.{cast_signed, cast_unsigned, int_min, int_max}
-use Rattle.std.proofs.lemmas.Bool.{cases_lt, lt-ltb, le-ltb, ne_eqb, eqb-true}
-use Rattle.std.proofs.lemmas.Bool.Decides.{leb_tells}
-use Rattle.std.proofs.lemmas.Int.{ints, clamps}
-use Rattle.std.proofs.lemmas.List.Sums.{fold-append}
-use Rattle.twkb_head.specs.declared.boxes.Span.{Span}
-use Rattle.twkb_body.specs.declared.extent_lanes.Lanes.{Lanes}
-use Rattle.twkb_body.specs.declared.extents.Base.{Base}
-use Rattle.twkb_body.specs.Extent.{span_of, joined}
-use Rattle.twkb_body.specs.Devices.Columns.{Stays, running, sum_fits}
-use Rattle.twkb_body.specs.Devices.Extents.{distance, lane_sum, lane_span, steps, lane_range, lanes_range, axis_in, no_lanes, IsLane, AreHeld, IsNearZero, Grows}
+use Rattle.twkb_body.proofs.Prelude.{◌≡◌, ℕ, zero, suc, ◌+◌, ◌%◌, ◌<◌, ◌≤◌, ◌==◌, List, [], ◌∷◌, ◌++◌, map, length, take, drop, fold, ℤ, pos, neg_ℤ, ◌+ℤ◌, ◌≤ℤ◌, Bool, true, false, Some, None, inl, inr, refl, sym, ap, ap₂, ◌∙◌, subst, arith, slice_index, w16, w32, IsShort, IsBrief, All, if◌then◌else◌, nat_lt, min, max, cast_signed, cast_unsigned, int_min, int_max, cases_lt, lt-ltb, le-ltb, ne_eqb, eqb-true, leb_tells, ints, clamps, fold-append, Span, Lanes, Base, span_of, joined, Stays, running, sum_fits, distance, lane_sum, lane_span, steps, lane_range, lanes_range, axis_in, no_lanes, IsLane, AreHeld, IsNearZero, Grows}
+use Rattle.std.specs.Prelude.{Option}
 use Rattle.twkb_body.proofs.LaneSums.{wrapped}
 use Rattle.twkb_body.proofs.NumberRuns.{Stays-append, running-append, within_fits}
 use Rattle.twkb_body.proofs.Reaches.{joined-assoc, span_of-append}

@@ -1,22 +1,6 @@
 -- A run of points that was taken, and its extents.
-use Rattle.std.proofs.Common.{◌≡◌, ℕ, zero, suc, ◌+◌, ◌*◌, ◌<◌, ◌≤◌, List, [], ◌∷◌, map, length, fold, filter_map, ℤ, pos, ◌+ℤ◌, false, Option, Some, None, Ok, inl, inr, refl, sym, ap, ap₂, ◌∙◌, subst, arith}
+use Rattle.twkb_body.proofs.Prelude.{◌≡◌, ℕ, zero, suc, ◌+◌, ◌*◌, ◌<◌, ◌≤◌, List, [], ◌∷◌, map, length, fold, filter_map, ℤ, pos, ◌+ℤ◌, false, Option, Some, None, Ok, inl, inr, refl, sym, ap, ap₂, ◌∙◌, subst, arith, Reading, IsSound, IsAxes, ReadsNumbers, StopsAt, NumFault, Vertex, Header, axes_with, m_axis, Extents, Trail, Reach, reach_of, span_of, joined, PointValue, coordinate, sums, zeros, column, running, Stays, range_of, last_of, has_left, raw_reach, range_if, IsHeld, HoldsPoints, GrowTo, Leaves, Took, Stage, HasRead, points_at, raw_of, widened, lasts_from, IsWalked}
 use Rattle.std.specs.Prelude.{option_map}
-use Rattle.twkb_num.specs.Cursor.{Reading, IsSound}
-use Rattle.twkb_num.specs.Numbers.{IsAxes, ReadsNumbers, StopsAt}
-use Rattle.twkb_num.specs.declared.varint.NumFault.{NumFault}
-use Rattle.twkb_head.specs.declared.boxes.Vertex.{Vertex}
-use Rattle.twkb_head.specs.Header.{Header, axes_with}
-use Rattle.twkb_head.specs.Head.{m_axis}
-use Rattle.twkb_body.specs.declared.extents.Extents.{Extents}
-use Rattle.twkb_body.specs.declared.trail.Trail.{Trail}
-use Rattle.twkb_body.specs.Extent.{Reach, reach_of, span_of, joined}
-use Rattle.twkb_body.specs.Geometry.{PointValue, coordinate}
-use Rattle.twkb_body.specs.Devices.Body.{sums, zeros}
-use Rattle.twkb_body.specs.Devices.Columns.{column, running, Stays}
-use Rattle.twkb_body.specs.Devices.Extents.{range_of, last_of, has_left, raw_reach, range_if, IsHeld, HoldsPoints, GrowTo, Leaves, Took}
-use Rattle.twkb_body.specs.Devices.PointReader.{Stage, HasRead, points_at}
-use Rattle.twkb_body.specs.Devices.Ranges.{raw_of, widened}
-use Rattle.twkb_body.specs.Devices.Walk.{lasts_from, IsWalked}
 use Rattle.twkb_body.proofs.ExtentLanes.{grows_nothing}
 use Rattle.twkb_body.proofs.NumberRuns.{rows, run_walked, run_leaves, run_ends_early, sums_column, lasts_column}
 use Rattle.twkb_body.proofs.Scales.{widened_all}

@@ -1,20 +1,7 @@
 -- Numbers that are taken, one after another or in lanes, and the extents of their points.
-use Rattle.std.proofs.Common.{◌≡◌, ℕ, zero, suc, ◌+◌, ◌*◌, ◌%◌, ◌<◌, ◌≤◌, ◌==◌, List, [], ◌∷◌, ◌++◌, map, length, ℤ, pos, neg_ℤ, ◌+ℤ◌, ◌≤ℤ◌, Bool, nat_eq, true, false, Some, inl, inr, refl, sym, ap, ◌∙◌, subst, arith, slice_index, w32}
-use Rattle.std.specs.Prelude.{if◌then◌else◌, Option, All, ◌||◌, ◌⊎◌, ◌-◌, take, drop, replicate}
-use Rattle.std.proofs.lemmas.Bool.{eqb-true, eqb-false}
-use Rattle.std.proofs.lemmas.Int.{ints, clamps}
-use Rattle.std.specs.Int.{cast_signed, cast_unsigned, int_min, int_max}
-use Rattle.twkb_num.specs.Numbers.{IsAxes, points_in}
-use Rattle.twkb_num.specs.Varint.{IsBrief, IsShort}
-use Rattle.std.proofs.lemmas.List.{append-nil}
-use Rattle.twkb_head.specs.declared.boxes.Span.{Span}
+use Rattle.twkb_body.proofs.Prelude.{◌≡◌, ℕ, zero, suc, ◌+◌, ◌*◌, ◌%◌, ◌<◌, ◌≤◌, ◌==◌, List, [], ◌∷◌, ◌++◌, map, length, ℤ, pos, neg_ℤ, ◌+ℤ◌, ◌≤ℤ◌, Bool, nat_eq, true, false, Some, inl, inr, refl, sym, ap, ◌∙◌, subst, arith, slice_index, w32, if◌then◌else◌, All, ◌||◌, ◌⊎◌, eqb-true, eqb-false, ints, clamps, cast_signed, cast_unsigned, int_min, int_max, IsAxes, points_in, IsBrief, IsShort, append-nil, Span, Base, Lanes, Extents, span_of, joined, column, Stays, sum_fits, distance, lane_sum, last_place, steps, Sees, HaveRoom, axis_in, base_of, has_left, last_from, last_of, range_from, range_of, lane_range, lanes_range, no_lanes, IsLane, IsHeld, IsNearZero, Grows, AddsNumber, AddsToBase, HasAdded, GrowTo, Leaves, Took}
+use Rattle.std.specs.Prelude.{Option, ◌-◌, take, drop, replicate}
 use Rattle.twkb_body.specs.declared.extents.AxisExtent.{AxisExtent}
-use Rattle.twkb_body.specs.declared.extents.Base.{Base}
-use Rattle.twkb_body.specs.declared.extent_lanes.Lanes.{Lanes}
-use Rattle.twkb_body.specs.declared.extents.Extents.{Extents}
-use Rattle.twkb_body.specs.Extent.{span_of, joined}
-use Rattle.twkb_body.specs.Devices.Columns.{column, Stays, sum_fits}
-use Rattle.twkb_body.specs.Devices.Extents.{distance, lane_sum, last_place, steps, Sees, HaveRoom, axis_in, base_of, has_left, last_from, last_of, range_from, range_of, lane_range, lanes_range, no_lanes, IsLane, IsHeld, IsNearZero, Grows, AddsNumber, AddsToBase, HasAdded, GrowTo, Leaves, Took}
 use Rattle.twkb_body.proofs.ExtentLanes.{none_in_lanes, zero_lane, grows_on, grows_after, ends_more, one_seen, two_seen, IsStep, IsMiddle, moved_lane}
 use Rattle.twkb_body.proofs.NumberRuns.{column-append, column-same, column-other, append-Stays}
 use Rattle.twkb_body.proofs.Reaches.{joined-none}

@@ -1,5 +1,5 @@
 -- The bits of a metadata byte that announce fields.
-use Rattle.std.proofs.Common.{◌≡◌, ℕ, ◌+◌, ◌*◌, ◌/◌, ◌%◌, bit_and, ap, ◌∙◌, arith}
+use Rattle.twkb_body.proofs.Prelude.{◌≡◌, ℕ, ◌+◌, ◌*◌, ◌/◌, ◌%◌, bit_and, ap, ◌∙◌, arith}
 use Rattle.std.proofs.lemmas.Nat.{and_block, and_le_r, and_mask}
 
 -- the bits for a box, a size, extended dimensions and no body

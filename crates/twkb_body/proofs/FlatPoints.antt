@@ -1,29 +1,7 @@
 -- A point of X and Y without a box: two numbers after a header are its body, and it is certified exactly if its size is true.
-use Rattle.std.proofs.Common.{◌≡◌, ◌==◌, if◌then◌else◌, ◌+◌, ◌/◌, ◌%◌, ◌≤◌, ◌-◌, pos, neg_ℤ, ◌++◌, [], ◌∷◌, ℕ, ℤ, Bool, true, false, List, Option, Some, None, Ok, length, length-append, refl, sym, ap, subst, ◌∙◌, arith}
-use Rattle.std.proofs.lemmas.Grind.{common_steps}
-use Rattle.std.proofs.lemmas.Int.{ints}
-use Rattle.twkb_num.specs.Varint.{IsSigned}
-use mir.Val.{SFits}
-use Rattle.std.specs.Int.{w64}
-use Rattle.twkb_num.specs.Cursor.{Reading, passed, rest, IsMoved, IsSound}
-use Rattle.twkb_num.specs.Numbers.{ReadsNumbers}
-use Rattle.twkb_head.specs.declared.header.Head.{Head}
-use Rattle.twkb_head.specs.declared.kinds.Kind.TheVariants.{Point}
-use Rattle.twkb_head.specs.BegunHeader.{deepest, is_collection}
-use Rattle.twkb_head.specs.declared.header.BoxField.{BoxField}
-use Rattle.twkb_head.specs.Head.{IsHeadAt}
-use Rattle.twkb_head.proofs.HeadBack.{head_value}
-use Rattle.twkb_body.specs.declared.found.FalseClaim.{FalseClaim}
-use Rattle.twkb_body.specs.Geometry.{Geometry}
-use Rattle.twkb_body.specs.Encoding.{Blob}
-use Rattle.twkb_body.specs.Extent.{Reach}
-use Rattle.twkb_body.specs.Devices.Body.{Body}
-use Rattle.twkb_body.specs.Devices.BodyReader.{geometry_at, members_under}
-use Rattle.twkb_body.specs.Devices.Found.{Found, named, size_judged, box_judged, IsFound}
-use Rattle.twkb_body.specs.Devices.Inside.{Inside, of_head, reach_with, IsInside}
-use Rattle.twkb_body.specs.Devices.Pass.{Refused, first}
+use Rattle.twkb_body.proofs.Prelude.{◌≡◌, ◌==◌, ◌+◌, ◌/◌, ◌%◌, ◌≤◌, ◌-◌, pos, neg_ℤ, ◌++◌, [], ◌∷◌, ℕ, ℤ, Bool, true, false, List, Option, Some, None, Ok, length, length-append, refl, sym, ap, subst, ◌∙◌, arith, common_steps, ints, IsSigned, SFits, w64, Reading, passed, rest, IsMoved, IsSound, ReadsNumbers, Head, Point, deepest, is_collection, BoxField, IsHeadAt, head_value, FalseClaim, Geometry, Blob, Reach, Body, geometry_at, members_under, Found, named, size_judged, box_judged, IsFound, Inside, of_head, reach_with, IsInside, Refused, first, IsCertifiedBy}
+use Rattle.std.proofs.Common.{if◌then◌else◌}
 use Rattle.twkb_body.specs.Devices.FlatPoint.{IsOnePoint}
-use Rattle.twkb_body.specs.Devices.Tight.{IsCertifiedBy}
 use Rattle.twkb_body.proofs.AuditFacts.{not_certified}
 use Rattle.twkb_body.proofs.GeometrySteps.{shape_body, body_gives, body_of_head, geometry_found}
 use Rattle.twkb_body.proofs.NumberRuns.{has_64_bits}

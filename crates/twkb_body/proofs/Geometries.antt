@@ -1,18 +1,5 @@
 -- Geometries: the laws of the plan that reads them.
-use Rattle.std.proofs.Common.{◌≡◌, ℕ, zero, suc, ◌+◌, ◌<◌, ◌≤◌, Bool, true, false, List, [], ◌∷◌, ◌++◌, length, pos, inl, inr, refl, sym, ap, ap₂, subst, subst₂, ◌∙◌, append_assoc, arith}
-use Rattle.twkb_head.specs.declared.kinds.Kind.{Kind}
-use Rattle.twkb_head.specs.declared.kinds.Kind.TheVariants.{Point, LineString, Polygon, MultiPoint, MultiLineString, MultiPolygon, GeometryCollection}
-use Rattle.twkb_head.specs.Parts.{Sequence, Times}
-use Rattle.twkb_head.specs.Header.{Header, IsHeader}
-use Rattle.twkb_head.specs.BegunHeader.{IsAllowedUnder, is_collection, Field, IsBegunHeader}
-use Rattle.twkb_head.specs.Shared.Plan.{Plan, done}
-use Rattle.twkb_head.specs.Shared.HeadPlan.{HeadValue}
-use Rattle.twkb_head.proofs.Combinators.{PlanLaws, restated, Chain, chained, BegunChain, behind_again, Made, Measured, bind_laws_behind, done_laws, measure_laws, BegunTimes, free, times_laws}
-use Rattle.twkb_head.proofs.Heads.{IsAllowedWith, allowed_at, allowed_with, IsHead, head_laws}
-use Rattle.twkb_body.specs.Geometry.{Geometry, Members, geometry, none, more, member_count, Lengths}
-use Rattle.twkb_body.specs.Encoding.{BlobUnder, BlobsUnder, IsBody}
-use Rattle.twkb_body.specs.Begun.{IsBegunUnder, header_begun, shape_begun, members_begun, member_begun}
-use Rattle.twkb_body.specs.Devices.Body.{Body, geometry_from, members_of}
+use Rattle.twkb_body.proofs.Prelude.{◌≡◌, ℕ, zero, suc, ◌+◌, ◌<◌, ◌≤◌, Bool, true, false, List, [], ◌∷◌, ◌++◌, length, pos, inl, inr, refl, sym, ap, ap₂, subst, subst₂, ◌∙◌, append_assoc, arith, Kind, Point, LineString, Polygon, MultiPoint, MultiLineString, MultiPolygon, GeometryCollection, Sequence, Times, Header, IsHeader, IsAllowedUnder, is_collection, Field, IsBegunHeader, Plan, done, HeadValue, PlanLaws, restated, Chain, chained, BegunChain, behind_again, Made, Measured, bind_laws_behind, done_laws, measure_laws, BegunTimes, free, times_laws, IsAllowedWith, allowed_at, allowed_with, IsHead, head_laws, Geometry, Members, geometry, none, more, member_count, Lengths, BlobUnder, BlobsUnder, IsBody, IsBegunUnder, header_begun, shape_begun, members_begun, member_begun, Body, geometry_from, members_of}
 use Rattle.twkb_body.proofs.GeometryPlan.{parts_plan, geometry_with, members_plan, geometry_plan}
 use Rattle.twkb_body.proofs.Bodies.{MembersLaws, IsBodyOf, BegunBody, list_head, body_laws, list_begun, begun_list}
 

@@ -1,14 +1,6 @@
 -- The plan by which a geometry is read.
 use Rattle.std.specs.Prelude.{ℕ, zero, suc, ◌-◌, Bool, true, false, List, [], ◌∷◌, pos, Result}
-use Rattle.twkb_head.specs.declared.kinds.Kind.{Kind}
-use Rattle.twkb_head.specs.declared.kinds.Kind.TheVariants.{Point, LineString, Polygon, MultiPoint, MultiLineString, MultiPolygon, GeometryCollection}
-use Rattle.twkb_head.specs.Header.{Header, axes_of, is_multi}
-use Rattle.twkb_head.specs.BegunHeader.{is_collection, deepest}
-use Rattle.twkb_head.proofs.Spelling.{Fault, run}
-use Rattle.twkb_head.specs.Shared.Plan.{Plan, done, bind, many, measure, optional, number_plan, signeds_plan, coordinate_plan}
-use Rattle.twkb_head.specs.Shared.HeadPlan.{HeadValue, head_plan}
-use Rattle.twkb_body.specs.Geometry.{Geometry, Members, none, PointValue, Ring, PolygonValue}
-use Rattle.twkb_body.specs.Devices.Body.{Body, ListHead, add, behind, first_of, geometry_from, members_body, members_of, no_body, part_body, parts_body, ring_sums, sums, zeros}
+use Rattle.twkb_body.proofs.Prelude.{Kind, Point, LineString, Polygon, MultiPoint, MultiLineString, MultiPolygon, GeometryCollection, Header, axes_of, is_multi, is_collection, deepest, Fault, run, Plan, done, bind, many, measure, optional, number_plan, signeds_plan, coordinate_plan, HeadValue, head_plan, Geometry, Members, none, PointValue, Ring, PolygonValue, Body, ListHead, add, behind, first_of, geometry_from, members_body, members_of, no_body, part_body, parts_body, ring_sums, sums, zeros}
 
 -- a point: a difference for each axis
 abbrev pub point_plan : ℕ → PointValue → Plan PointValue

@@ -1,22 +1,6 @@
 -- The steps of reading a geometry: its header, its body, and the judging of its claims.
-use Rattle.std.proofs.Common.{◌≡◌, ℕ, zero, suc, ◌+◌, ◌-◌, ◌≤◌, ◌==◌, Bool, true, false, cond, List, [], length, map, ℤ, Option, Some, None, option_map, Ok, refl, sym, ap, ap₂, subst, ◌∙◌, arith}
-use Rattle.twkb_num.specs.Cursor.{Reading, passed, IsMoved}
-use Rattle.twkb_head.specs.declared.header.Head.{Head}
-use Rattle.twkb_head.specs.declared.header.BoxField.{BoxField}
-use Rattle.twkb_head.specs.declared.refusal.Malformed.{Malformed}
-use Rattle.twkb_head.specs.Header.{Header, is_multi}
-use Rattle.twkb_head.specs.BegunHeader.{is_collection}
-use Rattle.twkb_head.specs.Head.{bounds_of, head_of, IsHeadAt}
-use Rattle.twkb_head.specs.Shared.HeadPlan.{HeadValue, head_plan}
-use Rattle.twkb_head.specs.Shared.Reader.{Answer, Reader, ◌>>=◌, viewed, read, Fails}
-use Rattle.twkb_body.specs.Geometry.{Geometry, Members, Lengths, points_of, vertex_of, vertices}
-use Rattle.twkb_body.specs.Extent.{Reach, reach_of, both}
-use Rattle.twkb_body.specs.Devices.Body.{Body, no_body, geometry_from}
-use Rattle.twkb_body.specs.Devices.BodyReader.{spanned, shape_at, body_at, parts_at, geometry_by, geometry_at, members_under}
-use Rattle.twkb_body.specs.Devices.Pass.{NamesFirstOf, MemberSums, Sums, first, false_at, is_within, is_tight, ids_refused}
+use Rattle.twkb_body.proofs.Prelude.{◌≡◌, ℕ, zero, suc, ◌+◌, ◌-◌, ◌≤◌, ◌==◌, Bool, true, false, cond, List, [], length, map, ℤ, Option, Some, None, option_map, Ok, refl, sym, ap, ap₂, subst, ◌∙◌, arith, Reading, passed, IsMoved, Head, BoxField, Malformed, Header, is_multi, is_collection, bounds_of, head_of, IsHeadAt, HeadValue, head_plan, Answer, Reader, ◌>>=◌, viewed, read, Fails, Geometry, Members, Lengths, points_of, vertex_of, vertices, Reach, reach_of, both, Body, no_body, geometry_from, spanned, shape_at, body_at, parts_at, geometry_by, geometry_at, members_under, NamesFirstOf, MemberSums, Sums, first, false_at, is_within, is_tight, ids_refused, Found, size_judged, box_judged, IsFound, Inside, of_head, first_inside, IsInside}
 use Rattle.twkb_body.proofs.TreeSums.{nothing, over, size_refused, box_refused}
-use Rattle.twkb_body.specs.Devices.Found.{Found, size_judged, box_judged, IsFound}
-use Rattle.twkb_body.specs.Devices.Inside.{Inside, of_head, first_inside, IsInside}
 use Rattle.twkb_body.proofs.Passes.{over_sums, none_sums}
 
 geometry_is : (levels : ℕ) (r : Reading) → geometry_at levels r ≡ geometry_by levels (members_under levels) r

@@ -1,10 +1,5 @@
 -- A blob under a limit of depth is a blob under a greater one.
-use Rattle.std.proofs.Common.{ℕ, suc, ◌≤◌, Bool, true, false, List, ℤ, Option, arith}
-use Rattle.twkb_head.specs.declared.kinds.Kind.{Kind}
-use Rattle.twkb_head.specs.Header.{Header}
-use Rattle.twkb_head.specs.BegunHeader.{IsAllowedUnder}
-use Rattle.twkb_body.specs.Geometry.{Geometry, Members, geometry, none, more, Lengths, PolygonValue}
-use Rattle.twkb_body.specs.Encoding.{IsList, IsBody, BlobUnder, BlobsUnder}
+use Rattle.twkb_body.proofs.Prelude.{ℕ, suc, ◌≤◌, Bool, true, false, List, ℤ, Option, arith, Kind, Header, IsAllowedUnder, Geometry, Members, geometry, none, more, Lengths, PolygonValue, IsList, IsBody, BlobUnder, BlobsUnder}
 
 module _ (Each Each' : List ℕ → Type 0) (to : (bytes : List ℕ) → Each bytes → Each' bytes) where
   list_with : (h : Header) (l : Lengths) (ids : Option (List ℤ)) (n : ℕ) (bytes : List ℕ) → IsList h l ids n Each bytes → IsList h l ids n Each' bytes

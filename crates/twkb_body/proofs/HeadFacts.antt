@@ -1,10 +1,5 @@
 -- Facts about a header that was read.
-use Rattle.std.proofs.Common.{◌≡◌, ℕ, ◌+◌, ◌-◌, ◌≤◌, ◌++◌, length, Option, Some, None, IfSome, option_map, sym, ap, subst, ◌∙◌, arith, length-append}
-use Rattle.std.proofs.lemmas.Grind.{common_steps}
-use Rattle.twkb_num.specs.Cursor.{Reading, passed, IsMoved}
-use Rattle.twkb_head.specs.declared.header.Head.{Head}
-use Rattle.twkb_head.specs.declared.header.SizeField.{SizeField}
-use Rattle.twkb_head.specs.Head.{IsHeadAt}
+use Rattle.twkb_body.proofs.Prelude.{◌≡◌, ℕ, ◌+◌, ◌-◌, ◌≤◌, ◌++◌, length, Option, Some, None, IfSome, option_map, sym, ap, subst, ◌∙◌, arith, length-append, common_steps, Reading, passed, IsMoved, Head, SizeField, IsHeadAt}
 
 module _ (r new : Reading) (head : Head) (depth : ℕ) (at : IsHeadAt head depth r.place (passed r new)) (moved : IsMoved r new) where
   -- the size field ends within the header

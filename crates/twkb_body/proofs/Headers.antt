@@ -1,17 +1,5 @@
 -- A certified geometry whose header was read: the header is its own, and the size leads to its end.
-use Rattle.std.proofs.Common.{◌≡◌, ℕ, ◌+◌, ◌^◌, ◌<◌, ◌≤◌, true, List, cond, Option, Some, None, is_some, option_map, refl, ap, sym, ◌∙◌, arith, length}
-use Rattle.twkb_num.specs.Cursor.{Reading, added}
-use Rattle.twkb_head.specs.declared.boxes.Vertex.{Vertex}
-use Rattle.twkb_head.specs.declared.boxes.Bounds.{Bounds}
-use Rattle.twkb_head.specs.declared.header.Head.{Head}
-use Rattle.twkb_head.specs.declared.header.SizeField.{SizeField}
-use Rattle.twkb_head.specs.declared.raw.Fields.{Fields}
-use Rattle.twkb_head.specs.BegunHeader.{deepest}
-use Rattle.twkb_head.specs.Head.{head_of}
-use Rattle.twkb_head.specs.Raw.{head_said}
-use Rattle.twkb_body.specs.Geometry.{Geometry, geometry, lengths_of}
-use Rattle.twkb_body.specs.Standing.{StandsAt, head_standing}
-use Rattle.twkb_body.specs.Visit.{walk, bytes_to_pass}
+use Rattle.twkb_body.proofs.Prelude.{◌≡◌, ℕ, ◌+◌, ◌^◌, ◌<◌, ◌≤◌, true, List, cond, Option, Some, None, is_some, option_map, refl, ap, sym, ◌∙◌, arith, length, Reading, added, Vertex, Bounds, Head, SizeField, Fields, deepest, head_of, head_said, Geometry, geometry, lengths_of, StandsAt, head_standing, walk, bytes_to_pass}
 use Rattle.twkb_body.specs.Devices.Skimmed.{HasRead}
 use Rattle.twkb_body.proofs.Entering.{size_leads}
 use Rattle.twkb_body.proofs.HeadStands.{has_head}

@@ -1,20 +1,6 @@
 -- Reading the ids of a list one after another, with room for them or without.
-use Rattle.std.proofs.Common.{◌≡◌, ◌≢◌, ℕ, zero, suc, ◌+◌, ◌<◌, ◌≤◌, List, [], ◌∷◌, ◌++◌, length, take, drop, ℤ, pos, ◌≤ℤ◌, ◌<ℤ◌, All, AllPairs, Ok, Err, refl, sym, ap, subst, ◌∙◌, append_assoc, arith, length-append}
-use Rattle.std.proofs.lemmas.Int.{ints}
-use Rattle.std.proofs.lemmas.List.{take-append-drop, length-take}
-use Rattle.std.proofs.lemmas.List.Elements.{All-nil, All-cons, All-head, All-tail, All-append}
-use Rattle.std.proofs.lemmas.List.Kept.{AllPairs-cons}
-use Rattle.twkb_num.specs.Cursor.{Reading, rest, IsSound}
-use Rattle.twkb_num.specs.Varint.{IsSigned}
-use Rattle.twkb_head.specs.declared.refusal.Malformed.{Malformed}
-use Rattle.twkb_head.specs.Parts.{Then, Sequence, Times}
-use Rattle.twkb_head.specs.Shared.Plan.{signeds_plan}
-use Rattle.twkb_head.specs.Shared.Reader.{signed_at, signeds_at, Fails}
-use Rattle.twkb_head.proofs.Plans.{run_takes}
-use Rattle.twkb_head.proofs.Leaves.{signeds_laws}
-use Rattle.twkb_head.proofs.Readings.{read_ok}
-use Rattle.twkb_head.proofs.Loops.{IsLoop, loop_begins, loop_goes_on, loop_fails, loop_ends}
-use Rattle.twkb_body.specs.Devices.IdLists.{HasManyIds}
+use Rattle.twkb_body.proofs.Prelude.{◌≡◌, ◌≢◌, ℕ, zero, suc, ◌+◌, ◌<◌, ◌≤◌, List, [], ◌∷◌, ◌++◌, length, take, drop, ℤ, pos, ◌≤ℤ◌, ◌<ℤ◌, AllPairs, Ok, Err, refl, sym, ap, subst, ◌∙◌, append_assoc, arith, length-append, ints, take-append-drop, length-take, All-nil, All-cons, All-head, All-tail, All-append, AllPairs-cons, Reading, rest, IsSound, IsSigned, Malformed, Then, Sequence, Times, signeds_plan, signed_at, signeds_at, Fails, run_takes, signeds_laws, read_ok, IsLoop, loop_begins, loop_goes_on, loop_fails, loop_ends, HasManyIds}
+use Rattle.std.proofs.Common.{All}
 use Rattle.twkb_body.proofs.BodyRuns.{signeds_runs}
 use Rattle.twkb_body.proofs.Repeats.{many_more}
 

@@ -1,13 +1,5 @@
 -- A reader leaves the bytes unchanged, whether it answers a value or a fault.
-use Rattle.std.proofs.Common.{◌≡◌, ℕ, zero, suc, ℤ, List, ◌∷◌, length, Option, None, Some, Result, Ok, Err, refl, sym, ap, ◌∙◌}
-use Rattle.twkb_num.specs.Cursor.{Reading}
-use Rattle.twkb_head.specs.declared.refusal.Malformed.{Malformed}
-use Rattle.twkb_head.specs.declared.refusal.Why.{Why}
-use Rattle.twkb_head.specs.Shared.Plan.{Request, Plan, done, ask, judge, number_plan, coordinate_plan}
-use Rattle.twkb_head.specs.Shared.Reader.{Answer, Reader, ◌>>=◌, viewed, past, read_judged, read_field, read, number_at, coordinate_at, many_at, Fails}
-use Rattle.twkb_body.specs.Geometry.{PointValue}
-use Rattle.twkb_body.specs.Devices.Body.{first_of, behind, add}
-use Rattle.twkb_body.specs.Devices.BodyReader.{point_at}
+use Rattle.twkb_body.proofs.Prelude.{◌≡◌, ℕ, zero, suc, ℤ, List, ◌∷◌, length, Option, None, Some, Result, Ok, Err, refl, sym, ap, ◌∙◌, Reading, Malformed, Why, Request, Plan, done, ask, judge, number_plan, coordinate_plan, Answer, Reader, ◌>>=◌, viewed, past, read_judged, read_field, read, number_at, coordinate_at, many_at, Fails, PointValue, first_of, behind, add, point_at}
 
 abbrev pub Keeps : {A : Type 0} → Reader A → Type 0
 Keeps f = (r : Reading) → (f r).1.bytes ≡ r.bytes

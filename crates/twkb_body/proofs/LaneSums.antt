@@ -1,10 +1,6 @@
 -- Sums in lanes, in two's complement.
-use Rattle.std.proofs.Common.{◌≡◌, ℕ, ◌%◌, List, [], ◌∷◌, map, ℤ, pos, negsuc, neg_ℤ, ◌+ℤ◌, ◌≤ℤ◌, ◌<ℤ◌, inl, inr, refl, sym, ap, ap₂, ◌∙◌, arith, Fits, w32, Bool, true, false, ◌&&◌, nat_eq, length, slice_index}
-use Rattle.std.proofs.lemmas.Int.{ints, of_z-to_z}
-use Rattle.std.specs.Int.{cast_signed, cast_unsigned}
-use mir.Syntax.{Width}
-use Rattle.std.specs.Prelude.{◌⊎◌}
-use lib.Lanes.{Each1, mask_l}
+use Rattle.twkb_body.proofs.Prelude.{◌≡◌, ℕ, ◌%◌, List, [], ◌∷◌, map, ℤ, pos, negsuc, neg_ℤ, ◌+ℤ◌, ◌≤ℤ◌, ◌<ℤ◌, inl, inr, refl, sym, ap, ap₂, ◌∙◌, arith, Fits, w32, Bool, true, false, nat_eq, length, slice_index, ints, of_z-to_z, cast_signed, cast_unsigned, Width, ◌⊎◌, Each1, mask_l}
+use Rattle.std.proofs.Common.{◌&&◌}
 
 four_fits : (w : Width) (d : List ℕ) → Each1 (Fits w) d → map (cast_unsigned w) (map (cast_signed w) d) ≡ d
 four_fits w [] fits = refl

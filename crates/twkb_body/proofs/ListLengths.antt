@@ -1,9 +1,5 @@
 -- How many bytes there are up to an id of a list: at least two of a header, one of a count, and one of each id.
-use Rattle.std.proofs.Common.{ℕ, suc, ◌+◌, ◌≤◌, List, [], ◌∷◌, ◌++◌, length, ℤ, ap, arith, length-append}
-use Rattle.twkb_num.specs.Varint.{IsSigned}
-use Rattle.twkb_head.specs.Parts.{Sequence}
-use Rattle.twkb_head.specs.Header.{Header, IsHeader}
-use Rattle.twkb_body.specs.Audited.{EndsInIds, own_ids, member_ids, HasLongList}
+use Rattle.twkb_body.proofs.Prelude.{ℕ, suc, ◌+◌, ◌≤◌, List, [], ◌∷◌, ◌++◌, length, ℤ, ap, arith, length-append, IsSigned, Sequence, Header, IsHeader, EndsInIds, own_ids, member_ids, HasLongList}
 
 ids_length : (ids : List ℤ) (bytes : List ℕ) → Sequence IsSigned ids bytes → length ids ≤ length bytes
 ids_length [] bytes s = omega arith

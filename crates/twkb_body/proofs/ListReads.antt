@@ -1,14 +1,6 @@
 -- Lists of values, one after another, each after its length: what a reader of values does is what a reader of the lists does.
-use Rattle.std.proofs.Common.{◌≡◌, ℕ, ◌+◌, ◌<◌, List, flat_map, Ok, Err, Option, Some, None, IfSome, refl, sym, ap, ◌∙◌, arith}
+use Rattle.twkb_body.proofs.Prelude.{◌≡◌, ℕ, ◌+◌, ◌<◌, List, flat_map, Ok, Err, Option, Some, None, IfSome, refl, sym, ap, ◌∙◌, arith, Reading, Malformed, Answer, Reader, ◌>>=◌, number_at, many_at, Trail, PointValue, sums, prefixed_at, Stage, on, IsBefore, IsReady, EndsEarly, ReadsOrEnds}
 use Rattle.std.specs.Prelude.{Bool}
-use Rattle.twkb_num.specs.Cursor.{Reading}
-use Rattle.twkb_head.specs.declared.refusal.Malformed.{Malformed}
-use Rattle.twkb_head.specs.Shared.Reader.{Answer, Reader, ◌>>=◌, number_at, many_at}
-use Rattle.twkb_body.specs.declared.trail.Trail.{Trail}
-use Rattle.twkb_body.specs.Geometry.{PointValue}
-use Rattle.twkb_body.specs.Devices.Body.{sums}
-use Rattle.twkb_body.specs.Devices.BodyReader.{prefixed_at}
-use Rattle.twkb_body.specs.Devices.PointReader.{Stage, on, IsBefore, IsReady, EndsEarly, ReadsOrEnds}
 use Rattle.twkb_body.proofs.Keeping.{number_keeps}
 use Rattle.twkb_body.proofs.PointReads.{counted_read, counted_ends, uncounted_ends, next_leads}
 use Rattle.twkb_body.proofs.Settling.{next_read}

@@ -1,18 +1,7 @@
 -- Bytes that end right after an id of a list are a geometry begun.
-use Rattle.std.proofs.Common.{◌≡◌, ℕ, zero, suc, ◌<◌, ◌≤◌, Bool, true, false, List, [], ◌∷◌, ◌++◌, ℤ, Some, ◌⊎◌, inl, inr, refl, sym, ap, subst, ◌∙◌, arith}
-use Rattle.std.specs.Prelude.{not, ◌&&◌}
-use Rattle.std.proofs.lemmas.Bool.{cases_eq}
-use Rattle.std.proofs.lemmas.List.{append-nil}
-use Rattle.twkb_num.specs.Varint.{Spells, IsSigned}
-use Rattle.twkb_head.specs.declared.kinds.Kind.{Kind}
-use Rattle.twkb_head.specs.declared.kinds.Kind.TheVariants.{Point, LineString, Polygon, MultiPoint, MultiLineString, MultiPolygon, GeometryCollection}
-use Rattle.twkb_head.specs.Parts.{Times, Announced}
-use Rattle.twkb_head.specs.Header.{Header, IsHeader, axes_of, has_bit, is_multi}
-use Rattle.twkb_head.specs.BegunHeader.{is_collection, IsAllowedAt, Field, type_field, number_field, coordinate_field, type_due}
-use Rattle.twkb_body.specs.Geometry.{PointValue, none}
-use Rattle.twkb_body.specs.Encoding.{BlobsUnder}
-use Rattle.twkb_body.specs.Begun.{count_due, id_due, member_due, IsBegunPart, IsBegunNumbers, IsBegun, header_begun, shape_begun, members_begun, member_begun, SumsFit}
-use Rattle.twkb_body.specs.Audited.{EndsInIds, own_ids, member_ids}
+use Rattle.twkb_body.proofs.Prelude.{◌≡◌, ℕ, zero, suc, ◌<◌, ◌≤◌, Bool, true, false, List, [], ◌∷◌, ◌++◌, ℤ, Some, inl, inr, refl, sym, ap, subst, ◌∙◌, arith, ◌&&◌, cases_eq, append-nil, Spells, IsSigned, Kind, Point, LineString, Polygon, MultiPoint, MultiLineString, MultiPolygon, GeometryCollection, Times, Announced, Header, IsHeader, axes_of, has_bit, is_multi, is_collection, IsAllowedAt, Field, type_field, number_field, coordinate_field, type_due, PointValue, none, BlobsUnder, count_due, id_due, member_due, IsBegunPart, IsBegunNumbers, IsBegun, header_begun, shape_begun, members_begun, member_begun, SumsFit, EndsInIds, own_ids, member_ids}
+use Rattle.std.proofs.Common.{◌⊎◌}
+use Rattle.std.specs.Prelude.{not}
 
 -- ids are announced only where a body begins with a count
 announced : (empty multi there : Bool) → (not empty && (multi && there)) ≡ true → (empty ≡ false) × (multi ≡ true)

@@ -1,6 +1,5 @@
 -- The first of false claims, as a pass notes them.
-use Rattle.std.proofs.Common.{◌≡◌, Some, None, refl}
-use Rattle.twkb_body.specs.Devices.Pass.{Refused, first}
+use Rattle.twkb_body.proofs.Prelude.{◌≡◌, Some, None, refl, Refused, first}
 
 -- no claim after one
 pub first_none : (r : Refused) → first r None ≡ r

@@ -12,31 +12,9 @@
 -- run_stays, run_leaves: if points can be read, the sums of each axis stay within 64 bits.
 -- run_ends_early: if fewer numbers were read, and then there is a fault, the points can't be read.
 -- two_added, two_are, two_fit, two_stand: a point of two numbers, and the coordinates after it.
-use Rattle.std.proofs.Common.{negsuc, ◌≡◌, ℕ, zero, suc, ◌+◌, ◌-◌, ◌*◌, ◌^◌, ◌<◌, ◌≤◌, inl, inr, Bool, true, false, List, [], ◌∷◌, ◌++◌, length, fold, map, take, drop, ℤ, pos, neg_ℤ, ◌+ℤ◌, ◌≤ℤ◌, ◌<ℤ◌, Ok, refl, sym, ap, ap₂, subst, ◌∙◌, arith, append_assoc, length-append, length-drop, FitsSigned, w64, slice_index_or}
+use Rattle.twkb_body.proofs.Prelude.{negsuc, ◌≡◌, ℕ, zero, suc, ◌+◌, ◌-◌, ◌*◌, ◌^◌, ◌<◌, ◌≤◌, inl, inr, Bool, true, false, List, [], ◌∷◌, ◌++◌, length, fold, map, take, drop, ℤ, pos, neg_ℤ, ◌+ℤ◌, ◌≤ℤ◌, ◌<ℤ◌, Ok, refl, sym, ap, ap₂, subst, ◌∙◌, arith, append_assoc, length-append, length-drop, FitsSigned, slice_index_or, mul-add, mul-suc, mul-le-mul_left, mul-le-mul_right, cases_lt, common_steps, ints, append-nil, length-take-le, take-append-drop, unwrap_or-slice_get, Reading, passed, IsMoved, IsSound, ReadsNumbers, StopsAt, StopsReading, IsSigned, SpellsAllSigned, NumFault, IsSound-moved, IsMoved-two, fits, Answer, many_at, signed_at, coordinate_at, Range, ok_not_err, one_answer, read_signed, coordinate_ok, coordinate_refused, fits_true, Trail, PointValue, coordinate, first_of, behind, add, sums, point_at, column, sum_fits, Stays, running, HaveAxes, lasts_from}
+use Rattle.std.proofs.Common.{w64}
 use Rattle.std.specs.Prelude.{◌≢◌}
-use Rattle.std.proofs.Math.Nat.{mul-add, mul-suc, mul-le-mul_left, mul-le-mul_right}
-use Rattle.std.proofs.lemmas.Bool.{cases_lt}
-use Rattle.std.proofs.lemmas.Grind.{common_steps}
-use Rattle.std.proofs.lemmas.Int.{ints}
-use Rattle.std.proofs.lemmas.List.{append-nil, length-take-le, take-append-drop}
-use Rattle.std.proofs.lemmas.Option.{unwrap_or-slice_get}
-use Rattle.twkb_num.specs.Cursor.{Reading, passed, IsMoved, IsSound}
-use Rattle.twkb_num.specs.Numbers.{ReadsNumbers, StopsAt, StopsReading}
-use Rattle.twkb_num.specs.Varint.{IsSigned, SpellsAllSigned}
-use Rattle.twkb_num.specs.declared.varint.NumFault.{NumFault}
-use Rattle.twkb_num.proofs.CursorLemmas.{IsSound-moved}
-use Rattle.twkb_num.proofs.CursorLemmas.{IsMoved-two}
-use Rattle.twkb_head.specs.Shared.Plan.{fits}
-use Rattle.twkb_head.specs.Shared.Reader.{Answer, many_at, signed_at, coordinate_at}
-use Rattle.twkb_head.specs.declared.refusal.Why.TheVariants.{Range}
-use Rattle.twkb_head.proofs.Readings.{ok_not_err, one_answer}
-use Rattle.twkb_head.proofs.Steps.{read_signed, coordinate_ok, coordinate_refused, fits_true}
-use Rattle.twkb_body.specs.declared.trail.Trail.{Trail}
-use Rattle.twkb_body.specs.Geometry.{PointValue, coordinate}
-use Rattle.twkb_body.specs.Devices.Body.{first_of, behind, add, sums}
-use Rattle.twkb_body.specs.Devices.BodyReader.{point_at}
-use Rattle.twkb_body.specs.Devices.Columns.{column, sum_fits, Stays, running}
-use Rattle.twkb_body.specs.Devices.Walk.{HaveAxes, lasts_from}
 use Rattle.twkb_body.proofs.Coordinates.{signed_back}
 use Rattle.twkb_body.proofs.Runs.{IsRun, values_of}
 use Rattle.twkb_body.proofs.Settling.{moved_none, NumbersLead, no_number, point_numbers}

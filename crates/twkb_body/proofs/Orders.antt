@@ -1,9 +1,5 @@
 -- The parts of a blob are in order: header, count, ids, members and end.
-use Rattle.std.proofs.Common.{◌≡◌, ℕ, suc, ◌+◌, ◌≤◌, Bool, true, false, List, ◌++◌, length, ℤ, Option, sym, ap, ◌∙◌, arith, length-append}
-use Rattle.twkb_head.specs.Header.{Header, is_multi}
-use Rattle.twkb_head.specs.BegunHeader.{is_collection}
-use Rattle.twkb_body.specs.Geometry.{Geometry, Members, geometry, none, more, Lengths, lengths_of, PolygonValue, member_count}
-use Rattle.twkb_body.specs.Encoding.{IsNumbers, IsBody, IsHeaderThenBody, BlobUnder, BlobsUnder}
+use Rattle.twkb_body.proofs.Prelude.{◌≡◌, ℕ, suc, ◌+◌, ◌≤◌, Bool, true, false, List, ◌++◌, length, ℤ, Option, sym, ap, ◌∙◌, arith, length-append, Header, is_multi, is_collection, Geometry, Members, geometry, none, more, Lengths, lengths_of, PolygonValue, member_count, IsNumbers, IsBody, IsHeaderThenBody, BlobUnder, BlobsUnder}
 use Rattle.twkb_body.proofs.TreeSums.{member_total, HasOrder, HaveOrder}
 
 -- the size and the box are in the header, and the body comes after it

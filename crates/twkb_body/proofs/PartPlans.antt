@@ -1,17 +1,6 @@
 -- Points, rings, polygons and parts: the laws of the plans that read them.
-use Rattle.std.proofs.Common.{◌≡◌, ℕ, ◌<◌, false, List, [], ◌∷◌, ◌++◌, length, flat_map, ℤ, None, inl, inr, refl, sym, ap, subst, ◌∙◌}
-use Rattle.twkb_head.specs.declared.kinds.Kind.{Kind}
-use Rattle.twkb_head.specs.declared.kinds.Kind.TheVariants.{Point, LineString, Polygon, MultiPoint, MultiLineString, MultiPolygon, GeometryCollection}
-use Rattle.twkb_num.specs.Varint.{Spells, IsSigned}
-use Rattle.twkb_head.specs.Parts.{Sequence, Counted}
-use Rattle.twkb_head.specs.BegunHeader.{is_collection, Field, number_field, coordinate_field}
-use Rattle.twkb_head.specs.Shared.Plan.{Plan, bind, many, number_plan}
-use Rattle.twkb_head.proofs.Combinators.{PlanLaws, restated, Chain, chained, BegunChain, bind_laws, done_laws, FitAll, after_all, AreAll, BegunMany, many_laws}
-use Rattle.twkb_head.proofs.Leaves.{IsDue, IsNumber, number_laws, coordinate_laws, fewer, fewer_back}
-use Rattle.twkb_body.specs.Geometry.{PointValue, Ring}
-use Rattle.twkb_body.specs.Encoding.{IsPoint, IsRing, IsPart}
-use Rattle.twkb_body.specs.Begun.{IsBegunPoint, IsBegunList, count_due, id_due, member_due, IsBegunRing, IsBegunPart}
-use Rattle.twkb_body.specs.Devices.Body.{first_of, behind, add, sums, ring_sums}
+use Rattle.twkb_body.proofs.Prelude.{◌≡◌, ℕ, ◌<◌, false, List, [], ◌∷◌, ◌++◌, length, flat_map, ℤ, None, inl, inr, refl, sym, ap, subst, ◌∙◌, Kind, Point, LineString, Polygon, MultiPoint, MultiLineString, MultiPolygon, GeometryCollection, Spells, IsSigned, Sequence, Counted, is_collection, Field, number_field, coordinate_field, Plan, bind, many, number_plan, PlanLaws, restated, Chain, chained, BegunChain, bind_laws, done_laws, FitAll, after_all, AreAll, BegunMany, many_laws, IsDue, IsNumber, number_laws, coordinate_laws, fewer, fewer_back, PointValue, Ring, IsRing, IsPart, IsBegunPoint, IsBegunList, count_due, id_due, member_due, IsBegunRing, IsBegunPart, first_of, behind, add, sums, ring_sums}
+use Rattle.twkb_body.specs.Encoding.{IsPoint}
 use Rattle.twkb_body.proofs.GeometryPlan.{point_plan, ring_plan, part_plan}
 use Rattle.twkb_body.proofs.Sums.{FitNumber, FitPoint, FitPoints, FitRings, FitPoints-append, append-FitPoints, rings_fit, fit_rings, polygons_fit, fit_polygons, after_points, after_rings, after_polygons}
 

@@ -1,23 +1,6 @@
 -- What readers of points read, or can read: counts, rings, polygons and parts, from what they read of each part.
-use Rattle.std.proofs.Common.{◌≡◌, ℕ, zero, suc, ◌+◌, ◌-◌, ◌<◌, List, [], ◌∷◌, ◌++◌, fold, flat_map, map, replicate, Ok, Err, Option, Some, None, inl, inr, refl, sym, ap, subst, ◌∙◌, arith}
-use Rattle.std.proofs.lemmas.Grind.{flat_map-append}
-use Rattle.std.proofs.lemmas.List.{append-nil, map-id}
-use Rattle.std.proofs.lemmas.List.Sums.{fold-append}
-use Rattle.std.proofs.lemmas.Result.{IfOk-weaker, IfErr-weaker}
-use Rattle.std.specs.Prelude.{IfSome, ◌⊎◌, Bool, false, Result}
-use Rattle.twkb_num.specs.Cursor.{Reading}
-use Rattle.twkb_head.specs.declared.kinds.Kind.{Kind}
-use Rattle.twkb_head.specs.declared.kinds.Kind.TheVariants.{Point, LineString, Polygon, MultiPoint, MultiLineString, MultiPolygon, GeometryCollection}
-use Rattle.twkb_head.specs.declared.refusal.Malformed.{Malformed}
-use Rattle.twkb_head.specs.Shared.Reader.{Answer, Reader, ◌>>=◌, viewed, number_at, many_at, Fails}
-use Rattle.twkb_head.proofs.Loops.{first_fails, then_fails}
-use Rattle.twkb_head.proofs.Readings.{ok_not_err}
-use Rattle.twkb_body.specs.declared.trail.Trail.{Trail}
-use Rattle.twkb_body.specs.Geometry.{PointValue, Ring, PolygonValue, points_of}
-use Rattle.twkb_body.specs.Devices.Body.{add, sums, ring_sums}
-use Rattle.twkb_body.specs.Devices.BodyReader.{point_at, prefixed_at, ring_at, polygon_at, part_at, many_parts_at}
-use Rattle.twkb_body.specs.Devices.PointReader.{Stage, IsBefore, IsReady, HasRead, Leads, EndsEarly, ReadsAll, ReadsOrEnds, points_at}
-use Rattle.twkb_body.specs.Devices.Walk.{lasts_from, IsWalked}
+use Rattle.twkb_body.proofs.Prelude.{◌≡◌, ℕ, zero, suc, ◌+◌, ◌-◌, ◌<◌, List, [], ◌∷◌, ◌++◌, fold, flat_map, map, replicate, Ok, Err, Option, Some, None, inl, inr, refl, sym, ap, subst, ◌∙◌, arith, flat_map-append, append-nil, map-id, fold-append, IfOk-weaker, IfErr-weaker, ◌⊎◌, Reading, Kind, Point, LineString, Polygon, MultiPoint, MultiLineString, MultiPolygon, GeometryCollection, Malformed, Answer, Reader, ◌>>=◌, viewed, number_at, many_at, Fails, first_fails, then_fails, ok_not_err, Trail, PointValue, Ring, PolygonValue, points_of, add, sums, ring_sums, point_at, prefixed_at, ring_at, polygon_at, part_at, many_parts_at, Stage, IsBefore, IsReady, HasRead, Leads, EndsEarly, ReadsAll, ReadsOrEnds, points_at, lasts_from, IsWalked}
+use Rattle.std.specs.Prelude.{IfSome, Bool, false, Result}
 use Rattle.twkb_body.proofs.Keeping.{keeps_points, read_keeps}
 use Rattle.twkb_body.proofs.Sums.{part_points, rings_sums_flat}
 use Rattle.twkb_body.proofs.Tracing.{viewed_back, many_back}

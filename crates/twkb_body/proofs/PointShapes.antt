@@ -1,22 +1,5 @@
 -- The body of a point of X and Y alone.
-use Rattle.std.proofs.Common.{◌≡◌, ℕ, zero, suc, ◌<◌, [], ◌∷◌, ℤ, pos, ◌+ℤ◌, None, Ok, Err, refl, ap, sym, ◌∙◌, arith}
-use Rattle.std.proofs.lemmas.Int.{ints}
-use mir.Val.{SFits}
-use Rattle.std.specs.Int.{w64}
-use Rattle.twkb_num.specs.Cursor.{Reading, IsSound}
-use Rattle.twkb_num.specs.Numbers.{ReadsNumbers, StopsReading}
-use Rattle.twkb_num.specs.declared.varint.NumFault.{NumFault}
-use Rattle.twkb_head.specs.declared.header.Head.{Head}
-use Rattle.twkb_head.specs.declared.kinds.Kind.TheVariants.{Point}
-use Rattle.twkb_head.specs.Header.{is_multi}
-use Rattle.twkb_head.specs.Shared.Reader.{Answer, viewed}
-use Rattle.twkb_head.proofs.Readings.{ok_not_err}
-use Rattle.twkb_head.proofs.Steps.{fits_true}
-use Rattle.twkb_body.specs.Geometry.{PointValue, coordinate}
-use Rattle.twkb_body.specs.Devices.Body.{Body, part_body, zeros}
-use Rattle.twkb_body.specs.Devices.BodyReader.{point_at, shape_at}
-use Rattle.twkb_body.specs.Devices.Columns.{sum_fits}
-use Rattle.twkb_body.specs.Devices.Inside.{of_head}
+use Rattle.twkb_body.proofs.Prelude.{◌≡◌, ℕ, zero, suc, ◌<◌, [], ◌∷◌, ℤ, pos, ◌+ℤ◌, None, Ok, Err, refl, ap, sym, ◌∙◌, arith, ints, SFits, w64, Reading, IsSound, ReadsNumbers, StopsReading, NumFault, Head, Point, is_multi, Answer, viewed, ok_not_err, fits_true, PointValue, coordinate, Body, part_body, zeros, point_at, shape_at, sum_fits, of_head}
 use Rattle.twkb_body.proofs.NumberRuns.{numbers_point, two_stand}
 
 -- the body of a point with two numbers

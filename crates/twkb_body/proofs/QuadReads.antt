@@ -1,7 +1,5 @@
 -- The numbers in the lanes of a vector.
-use Rattle.std.proofs.Common.{◌≡◌, ℕ, List, [], ◌∷◌, length, map, ℤ, refl, ap, arith}
-use Rattle.std.specs.Int.{cast_signed}
-use mir.Syntax.{Width}
+use Rattle.twkb_body.proofs.Prelude.{◌≡◌, ℕ, List, [], ◌∷◌, length, map, ℤ, refl, ap, arith, cast_signed, Width}
 
 -- the numbers in four lanes
 pub four_of : (w : Width) (lanes : List ℕ) → length lanes ≡ 4 → (a b c d : ℤ) × (map (cast_signed w) lanes ≡ a ∷ b ∷ c ∷ d ∷ [])

@@ -1,17 +1,9 @@
 -- Ranges by their two ends in code.
-use Rattle.std.proofs.Common.{◌≡◌, ℕ, suc, ◌+◌, ◌%◌, ◌<◌, ◌^◌, ◌-◌, Bool, w64, inl, inr, negsuc, true, false, ℤ, pos, neg_ℤ, ◌+ℤ◌, ◌-ℤ◌, ◌<ℤ◌, ◌≤ℤ◌, Option, Some, None, refl, sym, ap, ap₂, ◌∙◌, subst, arith}
-use Rattle.std.specs.Prelude.{int_lt, cond}
-use Rattle.std.specs.Int.{int_min, int_max}
-use Rattle.std.specs.Prelude.{◌⊎◌}
-use Rattle.std.proofs.lemmas.Bool.{cases_lt}
-use Rattle.std.proofs.lemmas.Int.{ints, clamps, by_lt_z}
-use mir.Val.{to_z, of_z}
+use Rattle.twkb_body.proofs.Prelude.{◌≡◌, ℕ, suc, ◌+◌, ◌%◌, ◌<◌, ◌^◌, ◌-◌, Bool, inl, inr, negsuc, true, false, ℤ, pos, neg_ℤ, ◌+ℤ◌, ◌-ℤ◌, ◌<ℤ◌, ◌≤ℤ◌, Option, Some, None, refl, sym, ap, ap₂, ◌∙◌, subst, arith, int_lt, int_min, int_max, ◌⊎◌, cases_lt, ints, clamps, by_lt_z, to_z, of_z, Span, RawRange, joined, IsCovered, range_view, span_in, IsRange}
+use Rattle.std.proofs.Common.{w64}
+use Rattle.std.specs.Prelude.{cond}
 use mir.ValLaws.{to_z-neg}
-use Rattle.twkb_head.specs.declared.boxes.Span.{Span}
-use Rattle.twkb_head.specs.declared.raw.RawRange.{RawRange}
 use Rattle.twkb_body.specs.declared.range.Range.TheInside.{Inside}
-use Rattle.twkb_body.specs.Extent.{joined, IsCovered}
-use Rattle.twkb_body.specs.Devices.Ranges.{range_view, span_in, IsRange}
 
 is_less : (a b : ℤ) → a <ℤ b → int_lt a b ≡ true
 is_less a b lt = go (int_lt a b) refl

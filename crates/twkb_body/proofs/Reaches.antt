@@ -1,17 +1,7 @@
 -- Ranges of lists, joined and compared with boxes.
-use Rattle.std.proofs.Common.{◌≡◌, ℤ, ◌≤ℤ◌, List, [], ◌∷◌, ◌++◌, map, fold, filter_map, Option, Some, None, All, refl, sym, ap, ◌∙◌, subst, arith}
-use Rattle.std.proofs.lemmas.List.{append-nil, map-append}
-use Rattle.std.proofs.lemmas.List.Sums.{fold-append}
-use Rattle.std.proofs.lemmas.List.Elements.{All-nil, All-cons, All-head, All-tail, filter_map-append}
-use Rattle.std.proofs.lemmas.Int.{ints, clamps}
-use Rattle.std.specs.Int.{int_min, int_max}
-use Rattle.twkb_head.specs.declared.boxes.Vertex.{Vertex}
+use Rattle.twkb_body.proofs.Prelude.{◌≡◌, ℤ, ◌≤ℤ◌, List, [], ◌∷◌, ◌++◌, map, fold, filter_map, Option, Some, None, refl, sym, ap, ◌∙◌, subst, arith, append-nil, map-append, fold-append, All-nil, All-cons, All-head, All-tail, filter_map-append, ints, clamps, int_min, int_max, Vertex, Bounds, Span, Holds, span_of, joined, Reach, reach_of, both, IsCovered, IsReachWithin, cons_option}
+use Rattle.std.proofs.Common.{All}
 use Rattle.twkb_head.specs.Devices.Holds.{IsWithinBoth}
-use Rattle.twkb_head.specs.declared.boxes.Bounds.{Bounds}
-use Rattle.twkb_head.specs.declared.boxes.Span.{Span}
-use Rattle.twkb_head.specs.Holds.{Holds}
-use Rattle.twkb_body.specs.Extent.{span_of, joined, Reach, reach_of, both, IsCovered, IsReachWithin}
-use Rattle.std.specs.List.{cons_option}
 
 int_min-assoc : (a b c : ℤ) → int_min (int_min a b) c ≡ int_min a (int_min b c)
 int_min-assoc a b c = omega (arith, ints, clamps)

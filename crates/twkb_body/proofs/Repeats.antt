@@ -1,9 +1,5 @@
 -- Reading many values by one reader.
-use Rattle.std.proofs.Common.{◌≡◌, ℕ, zero, suc, ◌+◌, List, [], ◌∷◌, ◌++◌, ℤ, pos, Ok, ap, ◌∙◌, arith}
-use Rattle.twkb_num.specs.Cursor.{Reading}
-use Rattle.twkb_head.specs.declared.refusal.Malformed.{Malformed}
-use Rattle.twkb_head.specs.Shared.Reader.{Answer, Reader, ◌>>=◌, viewed, many_at}
-use Rattle.twkb_head.proofs.FieldCuts.{ok_is}
+use Rattle.twkb_body.proofs.Prelude.{◌≡◌, ℕ, zero, suc, ◌+◌, List, [], ◌∷◌, ◌++◌, ℤ, pos, Ok, ap, ◌∙◌, arith, Reading, Malformed, Answer, Reader, ◌>>=◌, viewed, many_at, ok_is}
 use Rattle.twkb_body.proofs.Tracing.{many_back, many_then}
 
 abbrev pub repeated : {A : Type 0} → ℕ → Reader A → Reader (List A)

@@ -1,20 +1,5 @@
 -- Reading from the same place of the same bytes again comes to the same end, whatever was counted before.
-use Rattle.std.proofs.Common.{◌≡◌, ℕ, ◌-◌, List, length, drop, Result, Ok, Err, refl, sym, ap, subst, ◌∙◌, arith}
-use Rattle.std.proofs.lemmas.Grind.{common_steps}
-use Rattle.twkb_num.specs.Cursor.{Reading, rest, IsSound}
-use Rattle.twkb_head.specs.declared.kinds.Kind.{Kind}
-use Rattle.twkb_head.specs.declared.refusal.Malformed.{Malformed}
-use Rattle.twkb_head.specs.declared.refusal.Why.{Why}
-use Rattle.twkb_head.specs.Refusal.{IsRefusedHead}
-use Rattle.twkb_head.specs.Shared.Plan.{Plan, many}
-use Rattle.twkb_head.specs.Shared.Reader.{Answer, Reader, Fails}
-use Rattle.twkb_head.proofs.FieldCuts.{err_is}
-use Rattle.twkb_head.proofs.Readings.{IsFailedAt, read_ok, read_err}
-use Rattle.twkb_head.proofs.Spelling.{Fault, fault, run}
-use Rattle.twkb_body.specs.Geometry.{PointValue}
-use Rattle.twkb_body.specs.Devices.Body.{ring_sums}
-use Rattle.twkb_body.specs.Devices.BodyReader.{part_at, many_parts_at}
-use Rattle.twkb_body.specs.Devices.PointReader.{IsUnreadable}
+use Rattle.twkb_body.proofs.Prelude.{◌≡◌, ℕ, ◌-◌, List, length, drop, Result, Ok, Err, refl, sym, ap, subst, ◌∙◌, arith, common_steps, Reading, rest, IsSound, Kind, Malformed, Why, IsRefusedHead, Plan, many, Answer, Reader, Fails, err_is, IsFailedAt, read_ok, read_err, Fault, fault, run, PointValue, ring_sums, part_at, many_parts_at, IsUnreadable}
 use Rattle.twkb_body.proofs.BodyRuns.{Runs, runs_many, part_runs}
 use Rattle.twkb_body.proofs.GeometryPlan.{part_plan}
 

@@ -1,15 +1,5 @@
 -- Runs of points: many points read at once, within a loop over more, and one more point after a run.
-use Rattle.std.proofs.Common.{◌≡◌, ℕ, zero, suc, ◌+◌, ◌≤◌, List, [], ◌∷◌, ◌++◌, length, Ok, Err, refl, sym, ap, subst, ◌∙◌, append_assoc, arith, length-append}
-use Rattle.std.proofs.lemmas.List.{append-nil}
-use Rattle.twkb_num.specs.Cursor.{Reading}
-use Rattle.twkb_head.specs.Shared.Reader.{Answer, Reader, many_at}
-use Rattle.twkb_head.proofs.Combinators.{after_all}
-use Rattle.twkb_head.proofs.Loops.{IsLoop, loop_begins, loop_goes_on, loop_ends}
-use Rattle.twkb_body.specs.declared.trail.Trail.{Trail}
-use Rattle.twkb_body.specs.Geometry.{PointValue}
-use Rattle.twkb_body.specs.Devices.Body.{add}
-use Rattle.twkb_body.specs.Devices.BodyReader.{point_at}
-use Rattle.twkb_body.specs.Devices.Walk.{IsWalked}
+use Rattle.twkb_body.proofs.Prelude.{◌≡◌, ℕ, zero, suc, ◌+◌, ◌≤◌, List, [], ◌∷◌, ◌++◌, length, Ok, Err, refl, sym, ap, subst, ◌∙◌, append_assoc, arith, length-append, append-nil, Reading, Answer, Reader, many_at, after_all, IsLoop, loop_begins, loop_goes_on, loop_ends, Trail, PointValue, add, point_at, IsWalked}
 use Rattle.twkb_body.proofs.Sums.{after_points}
 use Rattle.twkb_body.proofs.Tracing.{many_back}
 use Rattle.twkb_body.proofs.Walks.{walked_none, walked_then}

@@ -1,18 +1,7 @@
 -- Ranges commute with the scale, which is positive.
-use Rattle.std.proofs.Common.{◌≡◌, ℕ, zero, suc, ◌^◌, ℤ, pos, ◌≤ℤ◌, ◌+ℤ◌, ◌-ℤ◌, ◌*ℤ◌, unsigned_abs, List, [], ◌∷◌, map, fold, filter_map, Option, Some, None, refl, sym, ap, ap₂, ◌∙◌, arith}
+use Rattle.twkb_body.proofs.Prelude.{◌≡◌, ℕ, zero, suc, ◌^◌, ℤ, pos, ◌≤ℤ◌, ◌+ℤ◌, ◌-ℤ◌, ◌*ℤ◌, unsigned_abs, List, [], ◌∷◌, map, fold, filter_map, Option, Some, None, refl, sym, ap, ap₂, ◌∙◌, arith, ints, clamps, by_lt_z, int_min, int_max, cons_option, units_of, Span, Vertex, Header, m_axis, PointValue, coordinate, vertex_of, Reach, reach_of, span_of, both, joined, scaled, scaled_if, raw_of, widened, reach_in_units}
 use Rattle.std.proofs.Math.IntN.{suc_ℤ-*ℤ, *ℤ_comm, *ℤ-zero}
-use Rattle.std.proofs.lemmas.Int.{ints, clamps, by_lt_z}
-use Rattle.std.specs.Int.{int_min, int_max}
 use Rattle.std.specs.Prelude.{option_map}
-use Rattle.std.specs.List.{cons_option}
-use Rattle.twkb_num.specs.Units.{units_of}
-use Rattle.twkb_head.specs.declared.boxes.Span.{Span}
-use Rattle.twkb_head.specs.declared.boxes.Vertex.{Vertex}
-use Rattle.twkb_head.specs.Header.{Header}
-use Rattle.twkb_head.specs.Head.{m_axis}
-use Rattle.twkb_body.specs.Geometry.{PointValue, coordinate, vertex_of}
-use Rattle.twkb_body.specs.Extent.{Reach, reach_of, span_of, both, joined}
-use Rattle.twkb_body.specs.Devices.Ranges.{scaled, scaled_if, raw_of, widened, reach_in_units}
 use Rattle.twkb_body.proofs.Reaches.{reach_of-append, both-assoc, both-none}
 
 pub times_suc : (a : ℤ) (k : ℕ) → a *ℤ pos (suc k) ≡ a *ℤ pos k +ℤ a

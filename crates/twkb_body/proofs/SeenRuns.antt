@@ -1,12 +1,5 @@
 -- What a box asks for: ranges of raw coordinates and an extent in units, which are joined only when they are needed.
-use Rattle.std.proofs.Common.{◌≡◌, ℕ, [], Option, Some, None, false, is_some, refl, sym, ap, subst, ◌∙◌}
-use Rattle.std.proofs.lemmas.Bool.{false≢true}
-use Rattle.twkb_head.specs.declared.raw.Axes.{Axes}
-use Rattle.twkb_head.specs.Head.{m_axis}
-use Rattle.twkb_body.specs.declared.range.Ranges.{Ranges}
-use Rattle.twkb_body.specs.Extent.{Reach, reach_of, both, joined}
-use Rattle.twkb_body.specs.Devices.Ranges.{range_at, scaled_if}
-use Rattle.twkb_body.specs.Devices.Seen.{in_units, reach_if}
+use Rattle.twkb_body.proofs.Prelude.{◌≡◌, ℕ, [], Option, Some, None, false, is_some, refl, sym, ap, subst, ◌∙◌, false≢true, Axes, m_axis, Ranges, Reach, reach_of, both, joined, range_at, scaled_if, in_units, reach_if}
 use Rattle.twkb_body.proofs.Reaches.{both-assoc, both-comm, both-none}
 use Rattle.twkb_body.proofs.Scales.{scaled_joined, scaled_if_joined}
 

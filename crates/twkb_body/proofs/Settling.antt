@@ -1,28 +1,10 @@
 -- Points that can be read are passed as numbers. Points that change no state may be passed.
-use Rattle.std.proofs.Common.{◌≡◌, ℕ, Option, Some, None, zero, suc, ◌+◌, ◌-◌, ◌*◌, ◌^◌, ◌<◌, ◌≤◌, List, [], ◌∷◌, ◌++◌, length, length-append, fold, ℤ, Ok, Err, refl, ap, sym, subst, ◌∙◌, arith}
-use Rattle.twkb_num.specs.Cursor.{Reading, passed, IsMoved, IsSound}
-use Rattle.twkb_num.specs.Numbers.{PassesNumbers, StopsAmong, StopsAt}
-use Rattle.twkb_num.specs.Varint.{Spells, SpellsAll, zigzag_value}
-use Rattle.twkb_num.specs.declared.varint.NumFault.{NumFault}
-use Rattle.twkb_num.proofs.CursorLemmas.{IsMoved-two, IsMoved-here, IsMoved-after, IsSound-moved}
-use Rattle.twkb_head.specs.Header.{axes_with}
-use Rattle.twkb_head.specs.Shared.Reader.{Answer, Reader, many_at, signed_at}
-use Rattle.twkb_head.proofs.Combinators.{after_all}
-use Rattle.twkb_head.proofs.Loops.{IsLoop, loop_begins, loop_fails, loop_ends, behind_front}
-use Rattle.twkb_head.proofs.Readings.{ok_not_err, one_answer, no_failure}
-use Rattle.twkb_head.specs.Refusal.{why_of}
-use Rattle.twkb_head.proofs.Steps.{read_signed, read_no_signed, signed_moved}
-use Rattle.twkb_body.specs.declared.trail.Trail.{Trail}
-use Rattle.twkb_body.specs.Geometry.{PointValue}
-use Rattle.twkb_body.specs.Devices.Body.{first_of, behind, add, sums}
-use Rattle.twkb_body.specs.Devices.BodyReader.{point_at}
-use Rattle.twkb_body.specs.Devices.Walk.{HaveAxes, lasts_from, IsStill}
+use Rattle.twkb_body.proofs.Prelude.{◌≡◌, ℕ, Option, Some, None, zero, suc, ◌+◌, ◌-◌, ◌*◌, ◌^◌, ◌<◌, ◌≤◌, List, [], ◌∷◌, ◌++◌, length, length-append, fold, ℤ, Ok, Err, refl, ap, sym, subst, ◌∙◌, arith, Reading, passed, IsMoved, IsSound, PassesNumbers, StopsAmong, StopsAt, Spells, SpellsAll, zigzag_value, NumFault, IsMoved-two, IsMoved-here, IsMoved-after, IsSound-moved, axes_with, Answer, Reader, many_at, signed_at, after_all, IsLoop, loop_begins, loop_fails, loop_ends, behind_front, ok_not_err, one_answer, no_failure, why_of, read_signed, read_no_signed, signed_moved, Trail, PointValue, first_of, behind, add, sums, point_at, HaveAxes, lasts_from, IsStill, common_steps}
 use Rattle.twkb_body.proofs.Coordinates.{coordinate_ahead, signed_back}
 use Rattle.twkb_body.proofs.Runs.{IsRun, values_of, goes_far}
 use Rattle.twkb_body.proofs.Sums.{after_points}
 use Rattle.twkb_body.proofs.Tracing.{many_back, point_back}
 use Rattle.twkb_body.proofs.Walks.{walked_then}
-use Rattle.std.proofs.lemmas.Grind.{common_steps}
 
 
 -- ---- numbers, one after another

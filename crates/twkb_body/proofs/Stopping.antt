@@ -1,17 +1,6 @@
 -- If reading stops in a part, reading the whole stops for the same reason.
-use Rattle.std.proofs.Common.{◌≡◌, ◌∙◌, List, ◌++◌, ℕ, Ok}
-use Rattle.twkb_num.specs.Cursor.{Reading, rest, IsMoved, IsSound}
-use Rattle.twkb_num.specs.Varint.{Spells}
-use Rattle.twkb_head.specs.declared.refusal.Malformed.{Malformed}
-use Rattle.twkb_head.specs.Shared.Plan.{Plan, number_plan}
-use Rattle.twkb_head.proofs.Spelling.{Spelled}
-use Rattle.twkb_head.specs.Shared.Reader.{Answer, read, number_at, Fails}
-use Rattle.twkb_head.proofs.Plans.{run_takes}
-use Rattle.twkb_head.proofs.Leaves.{number_laws}
-use Rattle.twkb_head.proofs.Readings.{read_ok}
-use Rattle.twkb_body.specs.declared.stopped.Stopped.{Stopped}
-use Rattle.twkb_body.specs.declared.stopped.Stopped.TheVariants.{Malformed as BadField, Memory}
-use Rattle.twkb_body.specs.Devices.Stops.{HasStopped}
+use Rattle.twkb_body.proofs.Prelude.{◌≡◌, ◌∙◌, List, ◌++◌, ℕ, Ok, Reading, rest, IsMoved, IsSound, Spells, Malformed, Plan, number_plan, Spelled, Answer, read, number_at, Fails, run_takes, number_laws, read_ok, Stopped, Memory, HasStopped}
+use Rattle.twkb_body.specs.declared.stopped.Stopped.TheVariants.{Malformed as BadField}
 
 pub stops_outside : {A B : Type 0} (inner : Answer A) (outer : Answer B) (W V : Type 0) (mid old : Reading) (e : Stopped) (new : Reading)
     → ((m : Malformed) → Fails inner m new → Fails outer m new) → (new.bytes ≡ mid.bytes → W → (new.bytes ≡ old.bytes) × V)

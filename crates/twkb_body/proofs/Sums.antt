@@ -1,14 +1,6 @@
 -- Sums of numbers: carried from point to point, and from the start.
-use Rattle.std.proofs.Common.{◌≡◌, ℕ, zero, suc, true, List, [], ◌∷◌, ◌++◌, length, map, take, flat_map, slice_get, ℤ, pos, negsuc, ◌+ℤ◌, FitsSigned, Option, Some, unwrap_or, refl, sym, ap, ap₂, subst, ◌∙◌, arith, w64}
-use Rattle.std.proofs.lemmas.Bool.{ltb-true, lt-ltb}
-use Rattle.std.proofs.lemmas.Int.{ints}
-use Rattle.std.proofs.lemmas.Grind.{flat_map-append}
-use Rattle.twkb_head.specs.Shared.Plan.{fits}
-use Rattle.twkb_head.proofs.Combinators.{FitAll, after_all}
-use Rattle.twkb_body.specs.Geometry.{PointValue, Ring, PolygonValue, points_of, coordinate}
-use Rattle.twkb_body.specs.Begun.{SumsFit}
-use Rattle.twkb_body.specs.Encoding.{total, Accumulates, SameForm}
-use Rattle.twkb_body.specs.Devices.Body.{zeros, first_of, behind, add, sums, ring_sums, place, map_from, absolute}
+use Rattle.twkb_body.proofs.Prelude.{◌≡◌, ℕ, zero, suc, true, List, [], ◌∷◌, ◌++◌, length, map, take, flat_map, slice_get, ℤ, pos, negsuc, ◌+ℤ◌, FitsSigned, Option, Some, unwrap_or, refl, sym, ap, ap₂, subst, ◌∙◌, arith, ltb-true, lt-ltb, ints, flat_map-append, fits, FitAll, after_all, PointValue, Ring, PolygonValue, points_of, coordinate, SumsFit, total, Accumulates, SameForm, zeros, first_of, behind, add, sums, ring_sums, place, map_from, absolute}
+use Rattle.std.proofs.Common.{w64}
 
 -- the points of a part, ring after ring
 abbrev pub part_points : PolygonValue → List PointValue

@@ -1,13 +1,5 @@
 -- Values that were read, traced back to what they were read from.
-use Rattle.std.proofs.Common.{◌≡◌, ℕ, suc, List, ◌∷◌, ℤ, Ok, Err, refl, sym, ap, ◌∙◌}
-use Rattle.twkb_num.specs.Cursor.{Reading}
-use Rattle.twkb_head.specs.declared.refusal.Malformed.{Malformed}
-use Rattle.twkb_head.specs.Shared.Reader.{Answer, Reader, ◌>>=◌, viewed, coordinate_at, many_at}
-use Rattle.twkb_head.proofs.FieldCuts.{ok_is}
-use Rattle.twkb_head.proofs.Readings.{ok_not_err}
-use Rattle.twkb_body.specs.Geometry.{PointValue}
-use Rattle.twkb_body.specs.Devices.Body.{first_of, behind}
-use Rattle.twkb_body.specs.Devices.BodyReader.{point_at}
+use Rattle.twkb_body.proofs.Prelude.{◌≡◌, ℕ, suc, List, ◌∷◌, ℤ, Ok, Err, refl, sym, ap, ◌∙◌, Reading, Malformed, Answer, Reader, ◌>>=◌, viewed, coordinate_at, many_at, ok_is, ok_not_err, PointValue, first_of, behind, point_at}
 
 -- a value with f applied comes from a value that was read
 pub viewed_back : {A B : Type 0} (f : A → B) (a : Answer A) (y : B) (new : Reading) → viewed f a ≡ (Ok y, new) → (x : A) × (a ≡ (Ok x, new)) × (f x ≡ y)

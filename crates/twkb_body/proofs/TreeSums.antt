@@ -1,10 +1,6 @@
 -- The summary of a tree: the number of its vertices, their reach, and the first claim that is false.
-use Rattle.std.specs.Prelude.{ℕ, ◌+◌, ◌-◌, ◌≤◌, ⊤, ◌==◌, Bool, cond, List, [], ℤ, Option, Some, None}
-use Rattle.twkb_head.specs.Header.{Header}
-use Rattle.twkb_head.specs.Head.{bounds_of}
-use Rattle.twkb_body.specs.Geometry.{Geometry, Members, geometry, none, more, Lengths, lengths_of}
-use Rattle.twkb_body.specs.Extent.{Reach, reach_of, both}
-use Rattle.twkb_body.specs.Devices.Pass.{Refused, Summary, false_at, first, ids_refused, is_tight, is_within}
+use Rattle.twkb_body.proofs.Prelude.{⊤, Header, bounds_of, Geometry, Members, geometry, none, more, Lengths, lengths_of, Reach, reach_of, both, Refused, Summary, false_at, first, ids_refused, is_tight, is_within}
+use Rattle.std.specs.Prelude.{ℕ, ◌+◌, ◌-◌, ◌≤◌, ◌==◌, Bool, cond, List, [], ℤ, Option, Some, None}
 
 -- the summary of no geometry
 abbrev pub nothing : Summary

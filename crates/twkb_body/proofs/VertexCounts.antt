@@ -1,13 +1,6 @@
 -- A blob has no more vertices than bytes.
-use Rattle.std.proofs.Common.{◌≡◌, ℕ, suc, ◌+◌, ◌≤◌, Bool, true, false, ℤ, List, [], ◌∷◌, ◌++◌, length, map, flat_map, Option, sym, ap, ◌∙◌, arith, length-append}
-use Rattle.std.proofs.lemmas.List.{length-map}
-use Rattle.twkb_head.specs.Parts.{Sequence, Counted}
-use Rattle.twkb_head.specs.Header.{Header, axes_of, is_multi}
-use Rattle.twkb_head.specs.BegunHeader.{is_collection, deepest}
-use Rattle.twkb_head.specs.declared.kinds.Kind.{Kind}
-use Rattle.twkb_head.specs.declared.kinds.Kind.TheVariants.{Point, LineString, Polygon, MultiPoint, MultiLineString, MultiPolygon, GeometryCollection}
-use Rattle.twkb_body.specs.Geometry.{Geometry, Members, geometry, none, more, Lengths, PointValue, Ring, PolygonValue, vertex_of, points_of, vertices, member_vertices, member_count}
-use Rattle.twkb_body.specs.Encoding.{BlobUnder, BlobsUnder, IsBody, IsNumbers, IsPoint, IsRing, IsPolygon, IsPart}
+use Rattle.twkb_body.proofs.Prelude.{◌≡◌, ℕ, suc, ◌+◌, ◌≤◌, Bool, true, false, ℤ, List, [], ◌∷◌, ◌++◌, length, map, flat_map, Option, sym, ap, ◌∙◌, arith, length-append, length-map, Sequence, Counted, Header, axes_of, is_multi, is_collection, deepest, Kind, Point, LineString, Polygon, MultiPoint, MultiLineString, MultiPolygon, GeometryCollection, Geometry, Members, geometry, none, more, Lengths, PointValue, Ring, PolygonValue, vertex_of, points_of, vertices, member_vertices, member_count, BlobUnder, BlobsUnder, IsBody, IsNumbers, IsRing, IsPolygon, IsPart}
+use Rattle.twkb_body.specs.Encoding.{IsPoint}
 use Rattle.twkb_body.proofs.PartPlans.{flat_single}
 
 -- ---- numbers: a point has at least a byte

@@ -1,14 +1,5 @@
 -- Points that are read one after another: a loop that reaches the end, and one that fails. A state beside what is kept.
-use Rattle.std.proofs.Common.{◌≡◌, ℕ, ◌<◌, List, [], ◌∷◌, fold, Some, refl, sym, ap, subst, ◌∙◌}
-use Rattle.twkb_num.specs.Cursor.{Reading}
-use Rattle.twkb_head.specs.declared.refusal.Malformed.{Malformed}
-use Rattle.twkb_head.specs.Shared.Reader.{many_at, Fails}
-use Rattle.twkb_body.specs.declared.trail.Trail.{Trail}
-use Rattle.twkb_body.specs.Geometry.{PointValue}
-use Rattle.twkb_body.specs.Devices.Body.{add}
-use Rattle.twkb_body.specs.Devices.BodyReader.{point_at}
-use Rattle.twkb_body.specs.Devices.PointReader.{Stage, HasRead, EndsEarly, IsWalking}
-use Rattle.twkb_body.specs.Devices.Walk.{lasts_from, IsWalked}
+use Rattle.twkb_body.proofs.Prelude.{◌≡◌, ℕ, ◌<◌, List, [], ◌∷◌, fold, Some, refl, sym, ap, subst, ◌∙◌, Reading, Malformed, many_at, Fails, Trail, PointValue, add, point_at, Stage, HasRead, EndsEarly, IsWalking, lasts_from, IsWalked}
 use Rattle.twkb_body.proofs.PartPlans.{flat_single}
 use Rattle.twkb_body.proofs.Walks.{IsRingLoop, walk_fails, walk_ends, one_point, add_is_sums}
 

@@ -1,11 +1,6 @@
 -- How many bytes end a varint, counted by their tops.
-use Rattle.std.proofs.Common.{◌≡◌, ℕ, ◌+◌, ◌*◌, ◌≤◌, Bool, false, cond, List, [], ◌∷◌, ap, ◌∙◌, arith}
-use Rattle.std.specs.Int.RustNames.{count_ones}
-use Rattle.std.proofs.lemmas.Simd.{ones-mask_l}
+use Rattle.twkb_num.proofs.Prelude.{◌≡◌, ℕ, ◌+◌, ◌*◌, ◌≤◌, Bool, false, cond, List, [], ◌∷◌, ap, ◌∙◌, arith, count_ones, ones-mask_l, nat_eq, mask_l, ended, ends_to, eight_bytes}
 use Rattle.std.proofs.lemmas.Bool.Decides.{nat_tests}
-use Rattle.std.specs.Prelude.{nat_eq}
-use lib.Lanes.{mask_l}
-use Rattle.twkb_num.specs.Devices.Ends.{ended, ends_to, eight_bytes}
 
 -- the bits of a word, where each byte has none but its top
 abbrev tops : Bool → Bool → Bool → Bool → Bool → Bool → Bool → Bool → List Bool

@@ -1,13 +1,6 @@
 -- The first end among eight bytes, by the lowest bit of a word.
-use Rattle.std.proofs.Common.{◌≡◌, ℕ, zero, suc, ◌+◌, ◌-◌, ◌*◌, ◌/◌, ◌^◌, ◌<◌, ◌≤◌, List, slice_index, ap, ap₂, ◌∙◌, refl, ◌⊎◌, inl, inr, arith}
-use Rattle.std.specs.Int.{Width, w64, from_le_bytes, bit_at, trailing_zeros}
-use mir.Val.{bits}
-use Rattle.std.specs.Int.Bits.{bit_and}
-use Rattle.std.proofs.lemmas.Nat.{and_block, pow_pos}
-use Rattle.std.proofs.lemmas.Nat.Bits.{bit_at_cat_low, bit_at-pow_same, bit_at-pow_other, bit_at-trailing_zeros}
-use Rattle.std.proofs.lemmas.Bool.{cases_lt}
+use Rattle.twkb_num.proofs.Prelude.{◌≡◌, ℕ, zero, suc, ◌+◌, ◌-◌, ◌*◌, ◌/◌, ◌^◌, ◌<◌, ◌≤◌, List, slice_index, ap, ap₂, ◌∙◌, refl, ◌⊎◌, inl, inr, arith, Width, w64, from_le_bytes, bit_at, trailing_zeros, bits, bit_and, and_block, pow_pos, bit_at_cat_low, bit_at-pow_same, bit_at-pow_other, bit_at-trailing_zeros, cases_lt, ended, four_bytes, eight_bytes}
 use Rattle.twkb_num.proofs.WordLemmas.{tops_4}
-use Rattle.twkb_num.specs.Devices.Ends.{ended, four_bytes, eight_bytes}
 
 -- the lowest 1 of a number
 pub lowest_at : (w : Width) (n m k : ℕ) → n < 2 ^ bits w → n ≡ m * 2 ^ (k + 1) + 2 ^ k → trailing_zeros w n ≡ k

@@ -1,19 +1,9 @@
 -- The numbers that the code computes in lanes are the numbers of the definitions, lane by lane.
-use Rattle.std.proofs.Common.{◌≡◌, map, eqb, zero, suc, subst, get_or, ℕ, ℤ, ◌+◌, ◌-◌, ◌*◌, ◌<◌, length, replicate, ◌/◌, ◌%◌, ◌^◌, List, [], ◌∷◌, Bool, cond, bit_and, refl, sym, ap, ◌∙◌, arith, inl, inr}
-use Rattle.std.specs.Int.{cast_signed, bit_not}
-use Rattle.std.specs.Prelude.{pos, neg_ℤ, ◌≤ℤ◌, ◌<ℤ◌, All}
-use Rattle.std.proofs.lemmas.List.{length-map, get_or-map}
-use Rattle.std.proofs.lemmas.Nat.{and_mask, and_block}
-use Rattle.std.proofs.lemmas.Bool.{cases_lt, cond-true, cond-false, eq-eqb, ne_eqb}
-use Rattle.std.proofs.lemmas.Int.{ints, to_z_pos}
+use Rattle.twkb_num.proofs.Prelude.{◌≡◌, map, eqb, zero, suc, subst, get_or, ℕ, ℤ, ◌+◌, ◌-◌, ◌*◌, ◌<◌, length, replicate, ◌/◌, ◌%◌, ◌^◌, List, [], ◌∷◌, Bool, cond, refl, sym, ap, ◌∙◌, arith, inl, inr, cast_signed, bit_not, neg_ℤ, ◌≤ℤ◌, ◌<ℤ◌, All, length-map, get_or-map, and_mask, and_block, cases_lt, cond-true, cond-false, eq-eqb, ne_eqb, ints, to_z_pos, pow-suc, bits, hbits, zip2, sel_l, top, number_l, digits_l, zip2_of_maps, splat_is_map, map-map, tops_compared, zigzag_value, value_at, values}
+use Rattle.std.proofs.Common.{bit_and}
+use Rattle.std.specs.Prelude.{pos}
 use Rattle.std.proofs.Math.Facts.{to_z-neg}
-use Rattle.std.proofs.Math.Nat.{pow-suc}
 use mir.Syntax.{Width}
-use mir.Val.{bits, hbits}
-use lib.Lanes.{zip2, sel_l, top, number_l, digits_l}
-use Rattle.std.proofs.lemmas.Simd.{zip2_of_maps, splat_is_map, map-map, tops_compared}
-use Rattle.twkb_num.specs.Varint.{zigzag_value}
-use Rattle.twkb_num.specs.Devices.Lanes.{value_at, values}
 
 -- the groups of seven bits of two bytes, joined
 abbrev pub two_groups : ℕ → ℕ

@@ -1,19 +1,7 @@
 -- Two rows, one after the other, and their lanes.
-use Rattle.std.proofs.Common.{◌≡◌, ℕ, ℤ, zero, suc, ◌+◌, ◌-◌, ◌*◌, ◌/◌, ◌%◌, ◌<◌, ◌≤◌, ◌^◌, true, eqb, ltb, refl, sym, ap, ◌∙◌, subst, List, [], ◌∷◌, ◌++◌, map, length, take, drop, get_or, arith, inl, inr, Fits, w8}
-use Rattle.std.proofs.lemmas.Bool.{eqb-true, ltb-true, lt-ltb, cond-true, or_cases}
-use Rattle.std.proofs.lemmas.List.{take-take, get_or-take, get_or-drop, append_assoc, map-append}
-use Rattle.std.proofs.lemmas.Nat.{shr-shr}
-use Rattle.std.proofs.lemmas.Simd.{pick_l_whole, get_or_wider, Each1-get_or, below_from_Fits}
-use Rattle.std.proofs.Math.Seq.{take-add}
-use lib.Lanes.{number_l, digits_l, Each1}
-use Rattle.std.specs.Prelude.{All}
-use Rattle.std.specs.Int.{cast_signed, w16, w32}
-use Rattle.std.proofs.lemmas.Grind.{same_number_lists}
-use Rattle.std.proofs.lemmas.Int.{ints}
-use Rattle.twkb_num.specs.Varint.{SpellsAll, SpellsAllSigned, IsShort, IsBrief, zigzag_value}
-use Rattle.twkb_num.specs.Devices.Lanes.{value_at, values, IsTops, IsFlag}
-use Rattle.twkb_num.specs.declared.tables.narrow.TheConstants.{NARROW_PLACES, NARROW_LEN, THREE_NARROW_LEN}
-use Rattle.twkb_num.specs.declared.tables.wide.TheConstants.{WIDE_PLACES, WIDE_LEN, FIRST_WIDE_LEN}
+use Rattle.twkb_num.proofs.Prelude.{◌≡◌, ℕ, ℤ, zero, suc, ◌+◌, ◌-◌, ◌*◌, ◌/◌, ◌%◌, ◌<◌, ◌≤◌, ◌^◌, true, eqb, ltb, refl, sym, ap, ◌∙◌, subst, List, [], ◌∷◌, ◌++◌, map, length, take, drop, get_or, arith, inl, inr, Fits, w8, eqb-true, ltb-true, lt-ltb, cond-true, or_cases, take-take, get_or-take, get_or-drop, map-append, shr-shr, pick_l_whole, get_or_wider, Each1-get_or, below_from_Fits, take-add, number_l, digits_l, Each1, All, cast_signed, same_number_lists, ints, SpellsAll, SpellsAllSigned, IsShort, IsBrief, zigzag_value, value_at, values, IsTops, IsFlag, NARROW_PLACES, NARROW_LEN, THREE_NARROW_LEN, WIDE_PLACES, WIDE_LEN, FIRST_WIDE_LEN}
+use Rattle.std.proofs.lemmas.List.{append_assoc}
+use Rattle.std.specs.Int.{w16, w32}
 use Rattle.twkb_num.proofs.LaneLaws.{two_groups}
 use Rattle.twkb_num.proofs.TableLaws.{is_flag, row_ok, wide_rows, narrow_rows, wide_flags, narrow_flags, first_wide_rows, three_narrow_rows, first_wide_flags, three_narrow_flags}
 use Rattle.twkb_num.proofs.RowSpells.{IsPicked, row_holds}

@@ -1,10 +1,5 @@
 -- Numbers that were read are those that the bytes spell; and where there is a fault, the bytes don't spell as many.
-use Rattle.std.proofs.Common.{◌≡◌, ℕ, ℤ, ◌<◌, List, [], ◌∷◌, ◌++◌, length, Ok, Err, ap, sym, subst, refl, ◌∙◌, arith, append_assoc}
-use Rattle.std.specs.Prelude.{Result, IfOk, IfErr}
-use Rattle.twkb_num.specs.declared.varint.NumFault.{NumFault}
-use Rattle.twkb_num.specs.Cursor.{Reading, rest, passed}
-use Rattle.twkb_num.specs.Varint.{SpellsAllSigned, Faults, zigzag_value}
-use Rattle.twkb_num.specs.Numbers.{ReadsNumbers, StopsReading}
+use Rattle.twkb_num.proofs.Prelude.{◌≡◌, ℕ, ℤ, ◌<◌, List, [], ◌∷◌, ◌++◌, length, Ok, Err, ap, sym, subst, refl, ◌∙◌, arith, append_assoc, Result, IfOk, IfErr, NumFault, Reading, rest, passed, SpellsAllSigned, Faults, zigzag_value, ReadsNumbers, StopsReading}
 use Rattle.twkb_num.proofs.CursorLemmas.{rest-passed}
 use Rattle.twkb_num.proofs.SpellingLaws.{Spells-unique, Spells-no_fault}
 

@@ -1,14 +1,7 @@
 -- Bytes whose ends are counted, and the numbers that they spell. A varint may go on from one word into the next.
-use Rattle.std.proofs.Common.{◌≡◌, ℕ, zero, suc, ◌+◌, ◌-◌, ◌^◌, ◌<◌, ◌≤◌, List, [], ◌∷◌, ◌++◌, length, take, drop, slice_index, refl, sym, ap, subst, ◌∙◌, ◌⊎◌, inl, inr, arith, length-append, length-take, length-drop}
-use Rattle.std.proofs.Math.ListN.{get_or-append}
-use Rattle.std.proofs.Math.Nat.{pow-le-pow_right}
-use Rattle.std.proofs.Math.Seq.{get_or-append_seam, get_or-append_right, take-add, take-append_seam}
-use Rattle.std.proofs.lemmas.Bool.{cases_lt}
-use Rattle.std.proofs.lemmas.Grind.{common_steps}
-use Rattle.std.proofs.lemmas.List.Elements.{All-nil, All-cons, All-append}
-use Rattle.std.proofs.lemmas.List.{take_more, append-nil, append_assoc, take-take}
-use Rattle.twkb_num.specs.Varint.{Spells, SpellsAll, sum_of_groups, SpellsMany}
-use Rattle.twkb_num.specs.Devices.Ends.{ended, ends_to, IsEnd, IsLastEnd, IsFrontOf}
+use Rattle.twkb_num.proofs.Prelude.{◌≡◌, ℕ, zero, suc, ◌+◌, ◌-◌, ◌^◌, ◌<◌, ◌≤◌, List, [], ◌∷◌, ◌++◌, length, take, drop, slice_index, refl, sym, ap, subst, ◌∙◌, ◌⊎◌, inl, inr, arith, length-append, length-drop, get_or-append, pow-le-pow_right, get_or-append_seam, get_or-append_right, take-add, take-append_seam, cases_lt, common_steps, take_more, append-nil, take-take, Spells, SpellsAll, sum_of_groups, SpellsMany, ended, ends_to, IsEnd, IsLastEnd, IsFrontOf}
+use Rattle.std.proofs.Common.{length-take}
+use Rattle.std.proofs.lemmas.List.{append_assoc}
 use Rattle.twkb_num.proofs.VarintLemmas.{sum_of_groups-lt}
 use Rattle.twkb_num.proofs.NthEnds.{ended_once}
 
@@ -60,7 +53,7 @@ begun_few begun word k soon end i h =
           omega (arith, since, h)
     ]
 
--- The bytes spell `many` numbers, each below 2^49, and after these come `begun` bytes of a varint that goes on.
+-- The bytes spell `many` numbers, and after these come `begun` bytes of a varint that goes on.
 pub record IsPassed (bytes : List ℕ) (many begun : ℕ) : Type 0 where
   pub front : List ℕ
   pub last : List ℕ
@@ -71,7 +64,7 @@ pub record IsPassed (bytes : List ℕ) (many begun : ℕ) : Type 0 where
   pub long : length last ≡ begun
 
 pub passed_none : IsPassed [] 0 0
-passed_none = record { front = []; last = []; whole = refl; spells = record { numbers = []; count = refl; small = All-nil (λ n. n < 2 ^ 49); spelled = refl }; ends = λ some. absurd (omega (arith, some)); goes_on = λ k h. absurd (omega (arith, h)); long = refl }
+passed_none = record { front = []; last = []; whole = refl; spells = record { numbers = []; count = refl; spelled = refl }; ends = λ some. absurd (omega (arith, some)); goes_on = λ k h. absurd (omega (arith, h)); long = refl }
 
 -- one more byte, which goes on
 passed_on : (bytes : List ℕ) (many begun b : ℕ) → 128 ≤ b → IsPassed bytes many begun → IsPassed (bytes ++ b ∷ []) many (begun + 1)
@@ -96,14 +89,14 @@ SpellsAll-push bytes back [] n all last = (back, [], ap (λ (bs : List ℕ). bs 
 SpellsAll-push bytes back (m ∷ ns) n (front, behind, whole, first, all) last =
     (front, behind ++ back, ap (λ (bs : List ℕ). bs ++ back) whole ∙ append_assoc front behind back, first, SpellsAll-push behind back ns n all last)
 
--- at most six bytes that go on, and one that ends, spell a number below 2^49
-small_spelled : (last : List ℕ) (b : ℕ) → length last ≤ 6 → ((k : ℕ) → k < length last → 128 ≤ slice_index last k) → b < 128
-    → Spells (last ++ b ∷ []) (sum_of_groups 0 (last ++ b ∷ [])) × (sum_of_groups 0 (last ++ b ∷ []) < 2 ^ 49)
-small_spelled last b few on end =
+-- at most six bytes that go on, and one that ends, spell a number
+seven_spell : (last : List ℕ) (b : ℕ) → length last ≤ 6 → ((k : ℕ) → k < length last → 128 ≤ slice_index last k) → b < 128
+    → Spells (last ++ b ∷ []) (sum_of_groups 0 (last ++ b ∷ []))
+seven_spell last b few on end =
     let long : length (last ++ b ∷ []) ≡ length last + 1 = length-append last (b ∷ []) in
     let most : 128 ^ (0 + length (last ++ b ∷ [])) ≤ 128 ^ 7 = pow-le-pow_right {n = 128} (omega arith) {i = 0 + length (last ++ b ∷ [])} {j = 7} (omega (arith, long, few)) in
-    let small : sum_of_groups 0 (last ++ b ∷ []) < 2 ^ 49 = omega (arith, most, sum_of_groups-lt 0 (last ++ b ∷ [])) in (
-      record {
+    let small : sum_of_groups 0 (last ++ b ∷ []) < 2 ^ 49 = omega (arith, most, sum_of_groups-lt 0 (last ++ b ∷ [])) in
+    record {
         some = omega (arith, long);
         few = omega (arith, long, few);
         goes_on = λ k h. let before : k < length last = omega (arith, h, long) in omega (arith, on k before, get_or-append last (b ∷ []) 0 k before);
@@ -112,9 +105,7 @@ small_spelled last b few on end =
             rw at (omega (arith, end, get_or-append_seam last b [] 0));
         value = refl;
         fits = omega (arith, small);
-      },
-      small,
-    )
+    }
 
 -- the last byte of two parts and a byte more
 last_below : (front last : List ℕ) (b : ℕ) → b < 128 → slice_index (front ++ (last ++ b ∷ [])) (length (front ++ (last ++ b ∷ [])) - 1) < 128
@@ -125,7 +116,7 @@ last_below front last b end =
 -- one more byte, which ends a varint of at most six bytes before it
 passed_end : (bytes : List ℕ) (many begun b : ℕ) → b < 128 → begun ≤ 6 → IsPassed bytes many begun → IsPassed (bytes ++ b ∷ []) (many + 1) 0
 passed_end bytes many begun b end few p =
-    let (spells, small) = small_spelled p.last b (omega (arith, few, p.long)) p.goes_on end in
+    let spells = seven_spell p.last b (omega (arith, few, p.long)) p.goes_on end in
     let n : ℕ = sum_of_groups 0 (p.last ++ b ∷ []) in
     record {
       front = p.front ++ (p.last ++ b ∷ []);
@@ -134,7 +125,6 @@ passed_end bytes many begun b end few p =
       spells = record {
         numbers = p.spells.numbers ++ n ∷ [];
         count = length-append p.spells.numbers (n ∷ []) ∙ ap (λ (k : ℕ). k + 1) p.spells.count;
-        small = All-append (λ n. n < 2 ^ 49) p.spells.numbers (n ∷ []) p.spells.small (All-cons (λ n. n < 2 ^ 49) n [] small (All-nil (λ n. n < 2 ^ 49)));
         spelled = SpellsAll-push p.front (p.last ++ b ∷ []) p.spells.numbers n p.spells.spelled spells;
       };
       ends = λ some. last_below p.front p.last b end;

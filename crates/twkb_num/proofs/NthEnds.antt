@@ -1,8 +1,5 @@
 -- The ends in a word of eight bytes, counted by one multiplication, and the n-th of them found by one subtraction.
-use Rattle.std.proofs.Common.{◌≡◌, ℕ, zero, suc, ◌+◌, ◌-◌, ◌*◌, ◌/◌, ◌<◌, ◌≤◌, List, ap, ◌∙◌, arith}
-use Rattle.std.specs.Int.{w64, trailing_zeros}
-use Rattle.std.specs.Int.Bits.{bit_and}
-use Rattle.twkb_num.specs.Devices.Ends.{ended, ends_to, eight_bytes, IsEnd}
+use Rattle.twkb_num.proofs.Prelude.{◌≡◌, ℕ, zero, suc, ◌+◌, ◌-◌, ◌*◌, ◌/◌, ◌<◌, ◌≤◌, List, ap, ◌∙◌, arith, w64, trailing_zeros, bit_and, ended, ends_to, eight_bytes, IsEnd}
 use Rattle.twkb_num.proofs.EndLemmas.{tops_eight, lowest_0}
 
 -- a byte ends at most one varint

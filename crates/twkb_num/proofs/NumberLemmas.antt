@@ -1,11 +1,5 @@
 -- Numbers that are passed, and more after them.
-use Rattle.std.proofs.Common.{◌≡◌, ◌+◌, ℕ, List, Ok, Err, [], ◌∷◌, ◌++◌, ap, sym, subst, refl, ◌∙◌, arith, append_assoc, length-append}
-use Rattle.std.specs.Prelude.{Result, IfErr, OnOk}
-use Rattle.std.proofs.lemmas.List.{append-nil}
-use Rattle.twkb_num.specs.Cursor.{Reading, passed, IsMoved}
-use Rattle.twkb_num.specs.Varint.{Spells, SpellsAll, SpellsMany}
-use Rattle.twkb_num.specs.Numbers.{PassesNumbers, StopsAmong}
-use Rattle.twkb_num.specs.declared.varint.NumFault.{NumFault}
+use Rattle.twkb_num.proofs.Prelude.{◌≡◌, ◌+◌, ℕ, List, Ok, Err, [], ◌∷◌, ◌++◌, ap, sym, subst, refl, ◌∙◌, arith, append_assoc, length-append, Result, IfErr, OnOk, append-nil, Reading, passed, IsMoved, Spells, SpellsAll, SpellsMany, PassesNumbers, StopsAmong, NumFault}
 use Rattle.twkb_num.proofs.CursorLemmas.{passed-append, IsMoved-after}
 
 SpellsAll-append : (bs cs ns ms : List ℕ) → SpellsAll bs ns → SpellsAll cs ms → SpellsAll (bs ++ cs) (ns ++ ms)

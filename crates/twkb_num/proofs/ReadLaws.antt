@@ -1,9 +1,5 @@
 -- What the answer of a read says about the bytes from the place on.
-use Rattle.std.proofs.Common.{◌≡◌, ℕ, List, ◌++◌, ◌↔◌, sym, ap, refl, ◌∙◌, Ok, Err}
-use Rattle.std.specs.Prelude.{Result, IfOk, OnOk}
-use Rattle.twkb_num.specs.declared.varint.NumFault.{NumFault}
-use Rattle.twkb_num.specs.Cursor.{Reading, rest, passed, IsMoved}
-use Rattle.twkb_num.specs.Varint.{Spells, Faults}
+use Rattle.twkb_num.proofs.Prelude.{◌≡◌, ℕ, List, ◌++◌, ◌↔◌, sym, ap, refl, ◌∙◌, Ok, Err, Result, IfOk, OnOk, NumFault, Reading, rest, passed, IsMoved, Spells, Faults}
 use Rattle.twkb_num.proofs.CursorLemmas.{rest-passed}
 use Rattle.twkb_num.proofs.SpellingLaws.{Spells-unique, Spells-no_fault}
 

@@ -1,10 +1,5 @@
 -- Bytes that a row of a table picks are spellings, one after another.
-use Rattle.std.proofs.Common.{◌≡◌, ℕ, zero, suc, ◌+◌, ◌-◌, ◌/◌, ◌%◌, ◌<◌, ◌≤◌, ◌^◌, Bool, true, ◌&&◌, eqb, ltb, cond, refl, sym, ap, ◌∙◌, subst, List, [], ◌∷◌, ◌++◌, length, take, drop, get_or, arith, inl, inr}
-use Rattle.std.proofs.lemmas.Bool.{and_parts, eqb-true, eqb-false, ltb-true, lt-ltb, cond-true, cond-false, cases_Bool}
-use Rattle.std.proofs.lemmas.List.{drop_more, drop-drop, length-take}
-use Rattle.std.proofs.Math.Seq.{take-add}
-use Rattle.twkb_num.specs.Devices.Lanes.{byte_or_zero, byte_of, value_at, values, IsTops}
-use Rattle.twkb_num.specs.Varint.{SpellsAll}
+use Rattle.twkb_num.proofs.Prelude.{◌≡◌, ℕ, zero, suc, ◌+◌, ◌-◌, ◌/◌, ◌%◌, ◌<◌, ◌≤◌, ◌^◌, Bool, true, ◌&&◌, eqb, ltb, cond, refl, sym, ap, ◌∙◌, subst, List, [], ◌∷◌, ◌++◌, length, take, drop, get_or, arith, inl, inr, and_parts, eqb-true, eqb-false, ltb-true, lt-ltb, cond-true, cond-false, cases_Bool, drop_more, drop-drop, length-take, take-add, byte_or_zero, byte_of, value_at, values, IsTops, SpellsAll}
 use Rattle.twkb_num.proofs.SpellingForms.{varint_value, IsVarintForm, form_spells}
 use Rattle.twkb_num.proofs.TableLaws.{length_at, none_ok, lane_ok, row_ok}
 

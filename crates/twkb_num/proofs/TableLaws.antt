@@ -1,8 +1,5 @@
 -- The tables of places and lengths are right: computed at each of the 256 masks.
-use Rattle.std.proofs.Common.{◌≡◌, ℕ, zero, suc, ◌+◌, ◌/◌, ◌%◌, ◌<◌, ◌^◌, Bool, true, false, ◌&&◌, ◌||◌, eqb, ltb, cond, refl, get_or}
-use Rattle.twkb_num.specs.declared.tables.narrow.TheConstants.{NARROW_PLACES, NARROW_LEN, THREE_NARROW_LEN}
-use Rattle.twkb_num.specs.declared.tables.wide.TheConstants.{WIDE_PLACES, WIDE_LEN, FIRST_WIDE_LEN}
-use Rattle.twkb_num.specs.Devices.Lanes.{byte_of}
+use Rattle.twkb_num.proofs.Prelude.{◌≡◌, ℕ, zero, suc, ◌+◌, ◌/◌, ◌%◌, ◌<◌, ◌^◌, Bool, true, false, ◌&&◌, ◌||◌, eqb, ltb, cond, refl, get_or, NARROW_PLACES, NARROW_LEN, THREE_NARROW_LEN, WIDE_PLACES, WIDE_LEN, FIRST_WIDE_LEN, byte_of}
 use Rattle.twkb_num.proofs.Below.{true_below}
 
 -- how many bytes the varint takes that begins at a bit of the mask, if at most n

@@ -1,13 +1,6 @@
 -- Numbers that are read and taken, and more after them.
-use Rattle.std.proofs.Common.{nat_eq, ap, ◌∙◌, take, drop, length-drop, ◌≡◌, ◌⊎◌, inl, inr, ℕ, ℤ, ◌+◌, ◌*◌, ◌<◌, ◌≤◌, List, [], ◌∷◌, ◌++◌, length, sym, subst, refl, arith, append_assoc, length-append}
-use Rattle.std.proofs.lemmas.Bool.{cases_Bool, cond-true, cond-false}
-use Rattle.std.proofs.lemmas.List.{append-nil, length-take}
-use Rattle.std.proofs.Math.Nat.{mul-add}
-use Rattle.twkb_num.specs.Cursor.{Reading, passed, IsMoved}
-use Rattle.twkb_num.specs.Varint.{IsSigned, SpellsAllSigned}
-use Rattle.twkb_num.specs.Devices.Lanes.{count_in}
-use Rattle.twkb_num.specs.Numbers.{IsAxes, points_in, ReadsNumbers, StopsAt, TakesOn, Takes, StopsTaking}
-use Rattle.twkb_num.specs.declared.varint.NumFault.{NumFault}
+use Rattle.twkb_num.proofs.Prelude.{ap, ◌∙◌, take, drop, length-drop, ◌≡◌, ◌⊎◌, inl, inr, ℕ, ℤ, ◌+◌, ◌*◌, ◌<◌, ◌≤◌, List, [], ◌∷◌, ◌++◌, length, sym, subst, refl, arith, append_assoc, length-append, cases_Bool, cond-true, cond-false, append-nil, length-take, mul-add, Reading, passed, IsMoved, IsSigned, SpellsAllSigned, count_in, IsAxes, points_in, ReadsNumbers, StopsAt, TakesOn, Takes, StopsTaking, NumFault}
+use Rattle.std.proofs.Common.{nat_eq}
 use Rattle.twkb_num.proofs.CursorLemmas.{passed-append, IsMoved-after}
 use Rattle.twkb_num.proofs.LaneLemmas.{SpellsAllSigned-append}
 

@@ -1,7 +1,8 @@
 //! A cursor over bytes, which counts what it reads. Used by other crates.
 ghost use Rattle.std.specs.Prelude.{◌≡◌, ◌+◌, ◌-◌, ◌<◌, ◌≤◌, ◌^◌, ◌↔◌, ℕ, ℤ, List, [], ◌∷◌, ◌++◌, length, take, false, IsNone, IfOk, IfErr, IfSome, IfNone, OnOk, OnSome};
 ghost use Rattle.twkb_num.specs.Cursor.{rest, passed, counted, IsMoved, IsSound};
-ghost use Rattle.twkb_num.specs.Varint.{SpellsMany, Spells, IsSigned, Faults, IsCut, looked_at};
+ghost use Rattle.twkb_num.specs.Devices.Ends.{SpellsMany};
+ghost use Rattle.twkb_num.specs.Varint.{Spells, IsSigned, Faults, IsCut, looked_at};
 ghost use Rattle.twkb_num.specs.declared.varint.NumFault.TheVariants.{Cut};
 ghost use Rattle.twkb_num.specs.Devices.Varint.{IsBegunBy};
 

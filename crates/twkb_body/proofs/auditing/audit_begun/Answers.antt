@@ -1,13 +1,5 @@
 -- The result of the pass is restated in the words of the definitions.
-use Rattle.std.proofs.Common.{◌≡◌, ◌-◌, length, refl, ap, subst, ◌∙◌, arith}
-use Rattle.twkb_num.specs.Cursor.{Reading, rest}
-use Rattle.twkb_head.specs.BegunHeader.{deepest}
-use Rattle.twkb_head.proofs.HeadSteps.{two_back}
-use Rattle.twkb_body.specs.declared.stopped.Stopped.{Stopped}
-use Rattle.twkb_body.specs.Audited.{HasLongList}
-use Rattle.twkb_body.specs.Devices.BodyReader.{geometry_at}
-use Rattle.twkb_body.specs.Devices.Pass.{Refused, first}
-use Rattle.twkb_body.specs.Devices.Stops.{HasStopped}
+use Rattle.twkb_body.proofs.Prelude.{◌≡◌, ◌-◌, length, refl, ap, subst, ◌∙◌, arith, Reading, rest, deepest, two_back, Stopped, HasLongList, geometry_at, Refused, first, HasStopped}
 use Rattle.twkb_body.proofs.AuditFacts.{blob_stands, is_audited, is_false_claim, not_certified, is_malformed, stopped_bytes}
 use Rattle.twkb_body.proofs.auditing.audit_begun.Goals as goal
 

@@ -1,7 +1,5 @@
 -- Where no certified blob begins, the audit names a fault.
-use Rattle.std.proofs.Common.{◌≡◌, ◌++◌, sym, ap, ◌∙◌}
-use Rattle.twkb_num.specs.Cursor.{rest, passed}
-use Rattle.twkb_num.proofs.CursorLemmas.{rest-passed}
+use Rattle.twkb_body.proofs.Prelude.{◌≡◌, ◌++◌, sym, ap, ◌∙◌, rest, passed, rest-passed}
 use Rattle.twkb_body.proofs.auditing.fault_at.Goals as goal
 
 pub unreachable-requires-in_default-audit_begun : goal.unreachable-requires-in_default-audit_begun

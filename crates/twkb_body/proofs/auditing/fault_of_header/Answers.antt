@@ -1,8 +1,5 @@
 -- A header that can't be read is malformed where a geometry read from there is.
-use Rattle.std.proofs.Common.{◌-◌, ap, arith}
-use Rattle.twkb_num.specs.Cursor.{Reading}
-use Rattle.twkb_head.specs.BegunHeader.{deepest}
-use Rattle.twkb_head.proofs.HeadBack.{head_fails}
+use Rattle.twkb_body.proofs.Prelude.{◌-◌, ap, arith, Reading, deepest, head_fails}
 use Rattle.twkb_body.proofs.AuditFacts.{is_malformed}
 use Rattle.twkb_body.proofs.GeometrySteps.{header_fails}
 use Rattle.twkb_body.proofs.auditing.fault_of_header.Goals as goal

@@ -1,12 +1,5 @@
 -- The body is read whole, or opened.
-use Rattle.std.proofs.Common.{◌≡◌, ℤ, None, Ok, refl, sym, subst, arith}
-use Rattle.std.proofs.lemmas.Int.{ints}
-use mir.Val.{to_z, of_z}
-use Rattle.std.specs.Int.{w8}
-use Rattle.twkb_num.specs.Cursor.{Reading}
-use Rattle.twkb_body.specs.Devices.Body.{Body}
-use Rattle.twkb_body.specs.Devices.Inside.{shape_behind, shown_all}
-use Rattle.twkb_body.specs.Devices.Skimmed.{full_head}
+use Rattle.twkb_body.proofs.Prelude.{◌≡◌, ℤ, None, Ok, refl, sym, subst, arith, ints, to_z, of_z, w8, Reading, Body, shape_behind, shown_all, full_head}
 use Rattle.twkb_body.proofs.HeadStands.{shape_stands, enter_shape}
 use Rattle.twkb_body.proofs.body.enter_known_body.Goals as goal
 

@@ -1,7 +1,5 @@
 -- The list is opened.
-use Rattle.std.proofs.Common.{refl}
-use Rattle.twkb_head.proofs.Readings.{no_failure}
-use Rattle.twkb_body.specs.Devices.Skimmed.{full_head}
+use Rattle.twkb_body.proofs.Prelude.{refl, no_failure, full_head}
 use Rattle.twkb_body.proofs.HeadStands.{list_stands, enter_list}
 use Rattle.twkb_body.proofs.body.enter_list.Goals as goal
 

@@ -1,16 +1,5 @@
 -- The two numbers are the point.
-use Rattle.std.proofs.Common.{◌≡◌, pos, ◌+ℤ◌, false, None, fold, map, length, slice_index_or, rules, refl, ap, ap₂, subst, ◌∙◌, arith}
-use Rattle.std.proofs.lemmas.Int.{ints}
-use mir.Val.{SFits, to_z, of_z}
-use Rattle.std.specs.Int.{w64, w8}
-use Rattle.twkb_num.specs.Numbers.{ReadsNumbers}
-use Rattle.twkb_num.specs.Units.{units_of}
-use Rattle.twkb_head.specs.declared.kinds.Kind.TheVariants.{Point}
-use Rattle.twkb_head.proofs.Readings.{one_answer}
-use Rattle.twkb_body.specs.Geometry.{vertex_of, points_of}
-use Rattle.twkb_body.specs.Devices.Body.{Body}
-use Rattle.twkb_body.specs.Devices.Inside.{of_head, shape_behind}
-use Rattle.twkb_body.specs.Devices.Skimmed.{full_head, flat_axes}
+use Rattle.twkb_body.proofs.Prelude.{◌≡◌, pos, ◌+ℤ◌, false, None, fold, map, length, slice_index_or, rules, refl, ap, ap₂, subst, ◌∙◌, arith, ints, SFits, to_z, of_z, w64, w8, ReadsNumbers, units_of, Point, one_answer, vertex_of, points_of, Body, of_head, shape_behind, full_head, flat_axes}
 use Rattle.twkb_body.proofs.HeadStands.{enter_shape, shape_stands}
 use Rattle.twkb_body.proofs.NumberRuns.{two_are}
 use Rattle.twkb_body.proofs.PointShapes.{point_body, point_shape, point_stands}

@@ -1,5 +1,5 @@
 -- Points that can be read are passed as numbers, and no other place is their end.
-use Rattle.std.proofs.Common.{arith}
+use Rattle.twkb_body.proofs.Prelude.{arith}
 use Rattle.twkb_body.proofs.Settling.{points_fit, points_stand, points_passed}
 use Rattle.twkb_body.proofs.certified_walk.pass_points.Goals as goal
 

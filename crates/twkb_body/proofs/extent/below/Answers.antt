@@ -1,8 +1,6 @@
 -- A difference that saturates at an end of 128 bits is less than a step exactly if the exact one is.
-use Rattle.std.proofs.Common.{◌≡◌, ◌↔◌, ◌^◌, ◌<ℤ◌, ◌≤ℤ◌, ◌-ℤ◌, ℤ, pos, negsuc, IsTrue, to_z, of_z, arith}
-use Rattle.std.specs.Prelude.{int_lt}
-use Rattle.std.proofs.lemmas.Int.{ints}
-use Rattle.std.specs.Int.{w128, saturate_signed}
+use Rattle.twkb_body.proofs.Prelude.{◌≡◌, ◌↔◌, ◌^◌, ◌<ℤ◌, ◌≤ℤ◌, ◌-ℤ◌, ℤ, pos, negsuc, IsTrue, arith, int_lt, ints, w128, saturate_signed}
+use Rattle.std.proofs.Common.{to_z, of_z}
 use Rattle.twkb_body.proofs.extent.below.Goals as goal
 
 stays_below : (d step : ℤ) → pos 0 <ℤ step → step ≤ℤ pos (2 ^ 64) → IsTrue (int_lt (saturate_signed w128 d) step) ↔ (d <ℤ step)

@@ -1,7 +1,6 @@
 -- The step that is compared with is the step of the precision.
-use Rattle.std.proofs.Common.{◌≡◌, sym, to_z, of_z, arith}
-use Rattle.std.proofs.lemmas.Int.{ints}
-use Rattle.std.specs.Int.{w8, w128}
+use Rattle.twkb_body.proofs.Prelude.{◌≡◌, sym, arith, ints, w8, w128}
+use Rattle.std.proofs.Common.{to_z, of_z}
 use Rattle.twkb_body.proofs.extent.hugs.Goals as goal
 
 pub returns-in-Some : goal.returns-in-Some

@@ -1,7 +1,4 @@
-use Rattle.std.proofs.Common.{rules, ℕ, ◌%◌, List, Bool, nat_eq, slice_index, ap, ap₂, ◌∙◌, w32}
-use Rattle.std.specs.Prelude.{nat_le}
-use Rattle.std.proofs.lemmas.Simd.{tops_compared}
-use lib.Lanes.{mask_l, zip2}
+use Rattle.twkb_body.proofs.Prelude.{rules, ℕ, ◌%◌, List, Bool, nat_eq, slice_index, ap, ap₂, ◌∙◌, w32, nat_le, tops_compared, mask_l, zip2}
 use Rattle.twkb_body.proofs.LaneSums.{four_lanes_are, four_set}
 use Rattle.twkb_body.proofs.extent_lanes.are_within.Goals as goal
 

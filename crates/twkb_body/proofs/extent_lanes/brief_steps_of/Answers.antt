@@ -1,8 +1,5 @@
 -- Of two axes, the second point of each half is two differences from the last one before.
-use Rattle.std.proofs.Common.{ℤ, List, [], ◌∷◌, ◌++◌, map, sym, ap, ap₂, ◌∙◌, subst, w16}
-use Rattle.std.specs.Prelude.{All}
-use Rattle.std.specs.Int.{cast_signed}
-use Rattle.twkb_num.specs.Varint.{IsBrief}
+use Rattle.twkb_body.proofs.Prelude.{ℤ, List, [], ◌∷◌, ◌++◌, map, sym, ap, ap₂, ◌∙◌, subst, w16, All, cast_signed, IsBrief}
 use Rattle.twkb_body.proofs.LaneSums.{lanes_are}
 use Rattle.twkb_body.proofs.ExtentLanes.{two_steps, one_step, brief_steps}
 use Rattle.twkb_body.proofs.extent_lanes.brief_steps_of.Goals as goal

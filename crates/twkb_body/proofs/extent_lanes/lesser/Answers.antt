@@ -1,7 +1,5 @@
-use Rattle.std.proofs.Common.{rules, ℕ, List, Bool, ap, ap₂, ◌∙◌, w32}
-use Rattle.std.specs.Prelude.{nat_lt, slice_index}
-use Rattle.std.proofs.lemmas.Simd.{tops_compared}
-use lib.Lanes.{sel_l, zip2}
+use Rattle.twkb_body.proofs.Prelude.{rules, ℕ, List, Bool, ap, ap₂, ◌∙◌, w32, nat_lt, tops_compared, sel_l, zip2}
+use Rattle.std.specs.Prelude.{slice_index}
 use Rattle.twkb_body.proofs.LaneSums.{four_lanes_are}
 use Rattle.twkb_body.proofs.ExtentLanes.{lesser_lane}
 use Rattle.twkb_body.proofs.extent_lanes.lesser.Goals as goal

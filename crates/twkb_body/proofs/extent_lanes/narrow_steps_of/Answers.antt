@@ -1,7 +1,5 @@
 -- Each half of the lanes is widened.
-use Rattle.std.proofs.Common.{rules, ℕ, List, [], ◌∷◌, ◌++◌, map, ap, ◌∙◌, w16, w32}
-use Rattle.std.specs.Int.{cast_signed, cast_unsigned}
-use lib.Lanes.{pick_l}
+use Rattle.twkb_body.proofs.Prelude.{rules, ℕ, List, [], ◌∷◌, ◌++◌, map, ap, ◌∙◌, w16, w32, cast_signed, cast_unsigned, pick_l}
 use Rattle.twkb_body.proofs.ExtentLanes.{widened_steps}
 use Rattle.twkb_body.proofs.extent_lanes.narrow_steps_of.Goals as goal
 

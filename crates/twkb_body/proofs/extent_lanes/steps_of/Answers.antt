@@ -1,8 +1,5 @@
 -- Of two axes, the second point is two differences from the last one before.
-use Rattle.std.proofs.Common.{[], ◌∷◌, map, sym, ap, ◌∙◌, subst, w32}
-use Rattle.std.specs.Int.{cast_unsigned}
-use Rattle.std.specs.Prelude.{All}
-use Rattle.twkb_num.specs.Varint.{IsShort}
+use Rattle.twkb_body.proofs.Prelude.{[], ◌∷◌, map, sym, ap, ◌∙◌, subst, w32, cast_unsigned, All, IsShort}
 use Rattle.twkb_body.proofs.LaneSums.{lanes_are}
 use Rattle.twkb_body.proofs.ExtentLanes.{two_steps, one_step, wide_steps}
 use Rattle.twkb_body.proofs.extent_lanes.steps_of.Goals as goal

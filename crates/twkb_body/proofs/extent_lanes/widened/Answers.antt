@@ -1,8 +1,5 @@
 -- To add 2^15 in 16 bits, and to take it off again in 32, is to widen with the sign.
-use Rattle.std.proofs.Common.{◌≡◌, ℕ, ◌+◌, ◌-◌, ◌<◌, ◌%◌, List, [], ◌∷◌, map, length, replicate, refl, ap₂, arith, Fits, w16, w32}
-use Rattle.std.proofs.lemmas.Int.{ints}
-use Rattle.std.specs.Int.{cast_signed, cast_unsigned}
-use lib.Lanes.{Each1, zip2}
+use Rattle.twkb_body.proofs.Prelude.{◌≡◌, ℕ, ◌+◌, ◌-◌, ◌<◌, ◌%◌, List, [], ◌∷◌, map, length, replicate, refl, ap₂, arith, Fits, w16, w32, ints, cast_signed, cast_unsigned, Each1, zip2}
 use Rattle.twkb_body.proofs.extent_lanes.widened.Goals as goal
 
 sign_kept : (n : ℕ) → n < 65536 → ((n + 32768) % 65536 + (4294967296 - 32768)) % 4294967296 ≡ cast_unsigned w32 (cast_signed w16 n)

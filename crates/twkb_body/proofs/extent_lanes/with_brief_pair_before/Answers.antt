@@ -1,4 +1,4 @@
-use Rattle.std.proofs.Common.{refl}
+use Rattle.twkb_body.proofs.Prelude.{refl}
 use Rattle.twkb_body.proofs.extent_lanes.with_brief_pair_before.Goals as goal
 
 pub returns : goal.returns

@@ -1,7 +1,5 @@
 -- The range of an axis is that of its lanes.
-use Rattle.std.proofs.Common.{zero, suc, ◌∙◌, arith}
-use Rattle.std.proofs.lemmas.Bool.{lt-ltb}
-use Rattle.twkb_body.specs.Devices.Extents.{no_base}
+use Rattle.twkb_body.proofs.Prelude.{zero, suc, ◌∙◌, arith, lt-ltb, no_base}
 use Rattle.twkb_body.proofs.ExtentLanes.{settles_by}
 use Rattle.twkb_body.proofs.extents.lane_ranges.Goals as goal
 

@@ -1,5 +1,5 @@
 -- The other bit of the metadata byte is the one of ids.
-use Rattle.std.proofs.Common.{arith}
+use Rattle.twkb_body.proofs.Prelude.{arith}
 use Rattle.twkb_body.proofs.FieldBits.{field_bits, ids_bit}
 use Rattle.twkb_body.proofs.fields.announced.Goals as goal
 

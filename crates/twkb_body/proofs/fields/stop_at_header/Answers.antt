@@ -1,12 +1,5 @@
 -- The header is read once more, and its field is the one that a geometry read from there is malformed at.
-use Rattle.std.proofs.Common.{◌-◌, ap, subst, sym, ◌∙◌}
-use Rattle.twkb_num.specs.Cursor.{Reading, rest}
-use Rattle.twkb_head.specs.BegunHeader.{deepest}
-use Rattle.twkb_head.proofs.HeadBack.{head_fails}
-use Rattle.twkb_body.specs.declared.stopped.Stopped.{Stopped}
-use Rattle.twkb_body.specs.Audited.{HasLongList}
-use Rattle.twkb_body.specs.Devices.BodyReader.{geometry_at}
-use Rattle.twkb_body.specs.Devices.Stops.{HasStopped}
+use Rattle.twkb_body.proofs.Prelude.{◌-◌, ap, subst, sym, ◌∙◌, Reading, rest, deepest, head_fails, Stopped, HasLongList, geometry_at, HasStopped}
 use Rattle.twkb_body.proofs.GeometrySteps.{header_fails}
 use Rattle.twkb_body.proofs.Rereading.{refused_again}
 use Rattle.twkb_body.proofs.fields.stop_at_header.Goals as goal

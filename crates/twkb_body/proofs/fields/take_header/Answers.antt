@@ -1,8 +1,5 @@
 -- A header that begins with two bytes that were read: it is read to its end, or once more from its start to name a field.
-use Rattle.std.proofs.Common.{◌≡◌, ◌-◌, sym, ap, subst, arith}
-use Rattle.twkb_num.specs.Cursor.{Reading}
-use Rattle.twkb_head.specs.Head.{StartsWithHeader}
-use Rattle.twkb_head.proofs.HeadSteps.{two_back}
+use Rattle.twkb_body.proofs.Prelude.{◌≡◌, ◌-◌, sym, ap, subst, arith, Reading, StartsWithHeader, two_back}
 use Rattle.twkb_body.proofs.Beginning.{announced_same}
 use Rattle.twkb_body.proofs.Rereading.{same_rest}
 use Rattle.twkb_body.proofs.fields.take_header.Goals as goal

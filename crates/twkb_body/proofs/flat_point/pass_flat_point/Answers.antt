@@ -1,5 +1,5 @@
 -- The two bytes begin the header of the point that is passed.
-use Rattle.std.proofs.Common.{Option, Bool, false, ap}
+use Rattle.twkb_body.proofs.Prelude.{Option, Bool, false, ap}
 use Rattle.std.specs.Prelude.{unwrap_or}
 use Rattle.twkb_body.proofs.flat_point.pass_flat_point.Goals as goal
 

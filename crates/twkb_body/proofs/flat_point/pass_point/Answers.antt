@@ -1,17 +1,6 @@
 -- A point whose fields can be read is certified exactly if its size is true; one whose fields can't be read is no blob.
-use Rattle.std.proofs.Common.{◌≡◌, ◌⊎◌, ◌++◌, true, false, inl, inr, ℕ, List, Bool, not, Option, Some, None, is_some, refl, sym, ap, subst, ◌∙◌, arith, rules}
-use Rattle.twkb_num.specs.Cursor.{Reading, rest}
-use Rattle.twkb_num.specs.Numbers.{ReadsNumbers}
-use Rattle.twkb_head.specs.BegunHeader.{is_collection}
-use Rattle.twkb_head.specs.Header.{has_bit}
-use Rattle.twkb_head.specs.Raw.{head_said}
-use Rattle.twkb_head.specs.declared.raw.RawBox.{RawBox}
-use Rattle.twkb_body.specs.declared.found.FalseClaim.{FalseClaim}
-use Rattle.twkb_body.specs.Geometry.{Geometry}
-use Rattle.twkb_body.specs.Encoding.{Blob}
-use Rattle.twkb_body.specs.Standing.{StandsAt}
-use Rattle.twkb_body.specs.Devices.Found.{named, size_judged}
-use Rattle.twkb_body.specs.Devices.Tight.{IsCertifiedBy}
+use Rattle.twkb_body.proofs.Prelude.{◌≡◌, ◌++◌, true, false, inl, inr, ℕ, List, Bool, not, Option, Some, None, is_some, refl, sym, ap, subst, ◌∙◌, arith, rules, Reading, rest, ReadsNumbers, is_collection, has_bit, head_said, RawBox, FalseClaim, Geometry, Blob, StandsAt, named, size_judged, IsCertifiedBy}
+use Rattle.std.proofs.Common.{◌⊎◌}
 use Rattle.twkb_body.proofs.FlatPoints.{point_certified, point_refused}
 use Rattle.twkb_body.proofs.HeadFacts.{head_size}
 use Rattle.twkb_body.proofs.HeadStands.{header_starts, shape_stands}

@@ -1,9 +1,6 @@
 -- The code names the claim that the definition names first: a box that doesn't hold a vertex, then a loose box.
-use Rattle.std.proofs.Common.{◌≡◌, ◌∙◌, ap, ap₂, Bool, Option, Some, None, refl}
+use Rattle.twkb_body.proofs.Prelude.{◌≡◌, ◌∙◌, ap, ap₂, Bool, Option, Some, None, refl, Refused, false_at, first, named, FalseClaim}
 use Rattle.std.specs.Option.{option_or}
-use Rattle.twkb_body.specs.Devices.Pass.{Refused, false_at, first}
-use Rattle.twkb_body.specs.Devices.Found.{named}
-use Rattle.twkb_body.specs.declared.found.FalseClaim.{FalseClaim}
 use Rattle.twkb_body.proofs.Judging.{same_as_test, within_decides}
 use Rattle.twkb_body.proofs.found.judge_box.Goals as goal
 

@@ -1,8 +1,5 @@
 -- The test decides whether the box is tight.
-use Rattle.std.proofs.Common.{◌∙◌, ap, Bool, FitsSigned, rules}
-use Rattle.std.proofs.lemmas.Int.{to_z-of_z}
-use Rattle.std.specs.Int.{w8}
-use Rattle.twkb_body.specs.Devices.Pass.{false_at}
+use Rattle.twkb_body.proofs.Prelude.{◌∙◌, ap, Bool, FitsSigned, rules, to_z-of_z, w8, false_at}
 use Rattle.twkb_body.proofs.Judging.{same_as_test, tight_decides}
 use Rattle.twkb_body.proofs.found.judge_tight.Goals as goal
 

@@ -1,19 +1,7 @@
 -- The passes over a collection and over its members, each by the other: header, body, then the judging of claims.
-use Rattle.std.proofs.Common.{rules, ◌≡◌, ◌+◌, ◌-◌, suc, Bool, None, not, ◌==◌, ◌||◌, ℕ, refl, sym, ap, subst, ◌∙◌, arith}
-use Rattle.std.proofs.lemmas.Result.{err_from_is_err_and}
-use Rattle.twkb_num.specs.Cursor.{rest}
-use Rattle.twkb_head.specs.declared.header.Head.{Head}
-use Rattle.twkb_head.specs.BegunHeader.{deepest, IsAllowedAt}
-use Rattle.twkb_head.specs.Raw.{head_said}
-use Rattle.twkb_body.specs.Audited.{HasLongList}
-use Rattle.twkb_body.specs.Devices.Body.{no_body, members_body, members_of}
-use Rattle.twkb_body.specs.Devices.BodyReader.{list_at, geometry_at, members_under}
-use Rattle.twkb_body.specs.Devices.Found.{Found, named}
-use Rattle.twkb_body.specs.Devices.IdLists.{HasManyIdsAfterCount}
-use Rattle.twkb_body.specs.Devices.Inside.{Inside, of_head}
-use Rattle.twkb_body.specs.Devices.Pass.{Refused, first}
-use Rattle.twkb_body.specs.Devices.Seen.{in_units, HasSeen}
-use Rattle.twkb_body.specs.Devices.Stops.{WantsInside, own_ids, member_ids}
+use Rattle.twkb_body.proofs.Prelude.{rules, ◌≡◌, ◌+◌, ◌-◌, suc, Bool, None, not, ◌==◌, ℕ, refl, sym, ap, subst, ◌∙◌, arith, err_from_is_err_and, rest, Head, deepest, IsAllowedAt, head_said, HasLongList, no_body, members_body, members_of, list_at, geometry_at, members_under, Found, named, HasManyIdsAfterCount, Inside, of_head, Refused, first, in_units, HasSeen, WantsInside}
+use Rattle.std.proofs.Common.{◌||◌}
+use Rattle.twkb_body.specs.Devices.Stops.{own_ids, member_ids}
 use Rattle.twkb_body.proofs.Ending.{body_stops, body_ends, collection_stops}
 use Rattle.twkb_body.proofs.ExtentJudging.{box_there, nothing_judged}
 use Rattle.twkb_body.proofs.GeometrySteps.{empty_body, nothing_found, nothing_inside}

@@ -1,8 +1,5 @@
 -- The first false claim so far is the first of the members read; each step of the recursion comes nearer to the deepest level.
-use Rattle.std.proofs.Common.{◌≡◌, ◌+◌, ◌-◌, ◌*◌, not, ◌==◌}
-use Rattle.twkb_head.specs.BegunHeader.{deepest}
-use Rattle.twkb_body.specs.Devices.Found.{named}
-use Rattle.twkb_body.specs.Devices.Pass.{Refused, first}
+use Rattle.twkb_body.proofs.Prelude.{◌≡◌, ◌+◌, ◌-◌, ◌*◌, not, ◌==◌, deepest, named, Refused, first}
 use Rattle.twkb_body.proofs.MemberSteps.{IsMemberLoop, members_read}
 use Rattle.twkb_body.proofs.geometry.+take_member.Given as goal
 

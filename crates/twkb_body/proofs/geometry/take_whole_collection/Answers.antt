@@ -1,6 +1,5 @@
 -- No box is above a blob, so what was seen of it is forgotten.
-use Rattle.std.proofs.Common.{not, ◌==◌}
-use Rattle.twkb_body.specs.Devices.Seen.{HasSeen}
+use Rattle.twkb_body.proofs.Prelude.{not, ◌==◌, HasSeen}
 use Rattle.twkb_body.proofs.Ending.{read_unseen}
 use Rattle.twkb_body.proofs.geometry.take_whole_collection.Goals as goal
 

@@ -1,7 +1,5 @@
 -- The size leads to the blob's end; without a size the blob is skimmed, and every box is skipped.
-use Rattle.std.proofs.Common.{ap, sym, ◌∙◌, arith}
-use Rattle.twkb_num.specs.Cursor.{added}
-use Rattle.twkb_body.specs.Devices.Skimmed.{Config}
+use Rattle.twkb_body.proofs.Prelude.{ap, sym, ◌∙◌, arith, added, Config}
 use Rattle.twkb_body.proofs.Headers.{head_stands, sized_end, unsized_reads, passing_few}
 use Rattle.twkb_body.proofs.headed.pass_headed.Goals as goal
 

@@ -1,6 +1,5 @@
 -- The header was read, and the blob was skimmed from there on.
-use Rattle.std.proofs.Common.{ap}
-use Rattle.twkb_body.specs.Devices.Skimmed.{Config}
+use Rattle.twkb_body.proofs.Prelude.{ap, Config}
 use Rattle.twkb_body.proofs.Headers.{head_stands}
 use Rattle.twkb_body.proofs.headed.read_and_skim.Goals as goal
 

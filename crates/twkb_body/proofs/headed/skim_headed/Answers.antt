@@ -1,6 +1,5 @@
 -- After the first step, skimming the members leads to where the whole skim leads.
-use Rattle.std.proofs.Common.{◌≡◌, ◌∙◌, arith}
-use Rattle.twkb_body.specs.Geometry.{member_count}
+use Rattle.twkb_body.proofs.Prelude.{◌≡◌, ◌∙◌, arith, member_count}
 use Rattle.twkb_body.proofs.Remaining.{none_left}
 use Rattle.twkb_body.proofs.headed.skim_headed.Goals as goal
 

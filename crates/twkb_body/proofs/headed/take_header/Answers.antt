@@ -1,5 +1,5 @@
 -- The first two bytes were read, and then the rest.
-use Rattle.twkb_body.specs.Devices.Skimmed.{HasCome}
+use Rattle.twkb_body.proofs.Prelude.{HasCome}
 use Rattle.twkb_body.proofs.Beginning.{come_same, rest_read}
 use Rattle.twkb_body.proofs.HeadStands.{header_starts}
 use Rattle.twkb_body.proofs.headed.take_header.Goals as goal

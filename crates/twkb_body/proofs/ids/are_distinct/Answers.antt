@@ -1,5 +1,5 @@
 -- Sorting permutes the ids, so they differ exactly if the neighbors of the sorted list do.
-use Rattle.std.proofs.lemmas.List.Sorted.{IsPermutation-sym}
+use Rattle.twkb_body.proofs.Prelude.{IsPermutation-sym}
 use Rattle.twkb_body.proofs.Distinct.{pairs_permuted}
 use Rattle.twkb_body.proofs.ids.are_distinct.Goals as goal
 

@@ -1,5 +1,5 @@
 -- If no two neighbors up to the end are equal, all neighbors differ.
-use Rattle.std.proofs.Common.{arith, rules}
+use Rattle.twkb_body.proofs.Prelude.{arith, rules}
 use Rattle.twkb_body.proofs.Distinct.{pairs_from_sorted}
 use Rattle.twkb_body.proofs.ids.neighbors_differ.Goals as goal
 

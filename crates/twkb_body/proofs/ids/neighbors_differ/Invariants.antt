@@ -1,5 +1,5 @@
 -- No two neighbors before the index are equal.
-use Rattle.std.proofs.Common.{◌≢◌, ℕ, ◌+◌, ◌<◌, slice_index_or, ℤ}
+use Rattle.twkb_body.proofs.Prelude.{◌≢◌, ℕ, ◌+◌, ◌<◌, slice_index_or, ℤ}
 use Rattle.twkb_body.proofs.ids.neighbors_differ.Given as goal
 
 abbrev pub invariant-loop-i : goal.invariant-loop-i

@@ -1,8 +1,5 @@
 -- Four numbers are two ranges, one after the other.
-use Rattle.std.proofs.Common.{◌≡◌, length, rules, slice_index_or, pos, arith}
-use Rattle.std.proofs.lemmas.Int.{ints}
-use mir.Val.{SFits}
-use Rattle.std.specs.Int.{w64}
+use Rattle.twkb_body.proofs.Prelude.{◌≡◌, length, rules, slice_index_or, pos, arith, ints, SFits, w64}
 use Rattle.twkb_head.proofs.NumberRuns.{ranges_held, ranges_stand}
 use Rattle.twkb_body.proofs.known.two_ranges.Goals as goal
 

@@ -1,6 +1,5 @@
 -- At most one kind of field is due, none after a whole blob, and viable bytes go on by a field that is due.
-use Rattle.std.proofs.Common.{◌-◌, refl, arith}
-use Rattle.twkb_head.specs.BegunHeader.{deepest}
+use Rattle.twkb_body.proofs.Prelude.{◌-◌, refl, arith, deepest}
 use Rattle.twkb_body.proofs.BlobLaws.{one_due, none_due, goes_on}
 use Rattle.twkb_body.proofs.LongLists.{ids_begun}
 use Rattle.twkb_body.proofs.ListLengths.{long_list_length}

@@ -1,13 +1,5 @@
 -- A list with ids and one without are read as the reader reads them.
-use Rattle.std.proofs.Common.{None, sym, ap, subst, refl, ◌∙◌}
-use Rattle.twkb_head.specs.Shared.Reader.{signeds_at}
-use Rattle.twkb_num.specs.Cursor.{rest}
-use Rattle.twkb_body.specs.declared.stopped.Stopped.{Stopped}
-use Rattle.twkb_body.specs.Devices.BodyReader.{list_at}
-use Rattle.twkb_body.specs.Devices.Found.{named}
-use Rattle.twkb_body.specs.Devices.IdLists.{HasManyIds, HasManyIdsAfterCount}
-use Rattle.twkb_body.specs.Devices.Pass.{first}
-use Rattle.twkb_body.specs.Devices.Stops.{HasStopped}
+use Rattle.twkb_body.proofs.Prelude.{None, sym, ap, subst, refl, ◌∙◌, signeds_at, rest, Stopped, list_at, named, HasManyIds, HasManyIdsAfterCount, first, HasStopped}
 use Rattle.twkb_body.proofs.Noting.{first_none}
 use Rattle.twkb_body.proofs.Stopping.{stops_outside}
 use Rattle.twkb_body.proofs.ListSteps.{list_without, list_with, list_fails, list_wants}

@@ -1,6 +1,5 @@
 -- Points, lines and polygons are parts. A collection has none.
-use Rattle.std.proofs.Common.{[], replicate, refl, sym, subst}
-use Rattle.twkb_body.specs.Devices.Walk.{IsWalked}
+use Rattle.twkb_body.proofs.Prelude.{[], replicate, refl, sym, subst, IsWalked}
 use Rattle.twkb_body.proofs.PointReads.{points_are_parts, lines_are_parts, parts_ready, parts_read_or_end, nothing_read, nothing_has}
 use Rattle.twkb_body.proofs.Walks.{walked_none}
 use Rattle.twkb_body.proofs.parts.take_parts.Goals as goal

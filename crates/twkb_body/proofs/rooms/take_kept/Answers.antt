@@ -1,9 +1,5 @@
 -- Each turn keeps one id more; a malformed one or a refusal of memory ends the reading.
-use Rattle.std.proofs.Common.{refl, rules, ◌≡◌, arith}
-use Rattle.std.proofs.lemmas.Result.{err_from_is_err_and}
-use Rattle.std.proofs.lemmas.Int.{ints}
-use mir.Val.{to_z, of_z}
-use Rattle.std.specs.Int.{w64}
+use Rattle.twkb_body.proofs.Prelude.{refl, rules, ◌≡◌, arith, err_from_is_err_and, ints, to_z, of_z, w64}
 use Rattle.twkb_body.proofs.IdLoops.{ids_go_on, ids_fail, ids_many, rising_begins, rising_goes_on, rising_ends}
 use Rattle.twkb_body.proofs.rooms.take_kept.Goals as goal
 

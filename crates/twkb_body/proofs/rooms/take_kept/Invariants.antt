@@ -1,5 +1,5 @@
 -- The ids kept are the ids read, in order, from the start to the cursor's place.
-use Rattle.std.proofs.Common.{IsTrue}
+use Rattle.twkb_body.proofs.Prelude.{IsTrue}
 use Rattle.twkb_body.proofs.IdLoops.{IsIdLoop, IsRisingLoop}
 use Rattle.twkb_body.proofs.rooms.take_kept.Given as goal
 

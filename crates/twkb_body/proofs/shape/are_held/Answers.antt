@@ -1,5 +1,5 @@
 -- A box that holds all points in raw coordinates isn't refused.
-use Rattle.std.proofs.Common.{not, ◌==◌}
+use Rattle.twkb_body.proofs.Prelude.{not, ◌==◌}
 use Rattle.twkb_body.proofs.ExtentJudging.{held_judged}
 use Rattle.twkb_body.proofs.shape.are_held.Goals as goal
 

@@ -1,8 +1,5 @@
 -- The ranges of the axes are those of all points, by which the box is judged, and which the boxes above see.
-use Rattle.std.proofs.Common.{not, ◌==◌, sym, ap, subst, ◌∙◌}
-use Rattle.twkb_head.specs.Raw.{head_said}
-use Rattle.twkb_body.specs.Devices.Found.{box_judged}
-use Rattle.twkb_body.specs.Devices.Inside.{of_head}
+use Rattle.twkb_body.proofs.Prelude.{not, ◌==◌, sym, ap, subst, ◌∙◌, head_said, box_judged, of_head}
 use Rattle.twkb_body.proofs.ExtentJudging.{settled_is}
 use Rattle.twkb_body.proofs.shape.judge_points.Goals as goal
 

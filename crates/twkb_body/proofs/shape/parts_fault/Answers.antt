@@ -1,5 +1,5 @@
 -- Parts that can't be read are malformed, and reading them from the first on names the field.
-use Rattle.std.proofs.Common.{refl}
+use Rattle.twkb_body.proofs.Prelude.{refl}
 use Rattle.twkb_body.proofs.PointReads.{none_yet}
 use Rattle.twkb_body.proofs.shape.parts_fault.Goals as goal
 

@@ -1,6 +1,5 @@
 -- A kind without a list of parts has one part, and no ids.
-use Rattle.std.proofs.Common.{None, refl, sym}
-use Rattle.twkb_body.specs.Devices.Found.{named}
+use Rattle.twkb_body.proofs.Prelude.{None, refl, sym, named}
 use Rattle.twkb_body.proofs.Noting.{first_none}
 use Rattle.twkb_body.proofs.ShapeSteps.{one_alone}
 use Rattle.twkb_body.proofs.shape.take_count.Goals as goal

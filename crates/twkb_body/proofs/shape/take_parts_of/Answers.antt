@@ -1,18 +1,6 @@
 -- The points lead to their number and their reach, by which the box is judged. If they can't be read, a second reading names the
 -- malformed field.
-use Rattle.std.proofs.Common.{not, ◌==◌, None, refl, sym, ap, subst, ◌∙◌}
-use Rattle.twkb_num.specs.Cursor.{Reading, rest}
-use Rattle.twkb_head.specs.Raw.{head_said}
-use Rattle.twkb_body.specs.declared.stopped.Stopped.{Stopped}
-use Rattle.twkb_body.specs.Geometry.{points_of}
-use Rattle.twkb_body.specs.Devices.Body.{zeros}
-use Rattle.twkb_body.specs.Devices.BodyReader.{many_parts_at}
-use Rattle.twkb_body.specs.Devices.Found.{named}
-use Rattle.twkb_body.specs.Devices.IdLists.{HasManyIdsAfterCount}
-use Rattle.twkb_body.specs.Devices.Inside.{Inside, of_head, shape_behind}
-use Rattle.twkb_body.specs.Devices.Pass.{Refused, first}
-use Rattle.twkb_body.specs.Devices.Stops.{HasStopped}
-use Rattle.twkb_body.specs.Devices.Walk.{no_points}
+use Rattle.twkb_body.proofs.Prelude.{not, ◌==◌, None, refl, sym, ap, subst, ◌∙◌, Reading, rest, head_said, Stopped, points_of, zeros, many_parts_at, named, HasManyIdsAfterCount, Inside, of_head, shape_behind, Refused, first, HasStopped, no_points}
 use Rattle.twkb_body.proofs.ExtentJudging.{extent_read}
 use Rattle.twkb_body.proofs.Noting.{first_none}
 use Rattle.twkb_body.proofs.PointReads.{none_yet}

@@ -1,18 +1,5 @@
 -- A header is read, then the count of parts and their ids, then the points: the geometry is read, or stops where one of them does.
-use Rattle.std.proofs.Common.{◌≡◌, ◌-◌, not, ◌==◌, false, Ok, refl, sym, ap, subst, ◌∙◌, arith}
-use Rattle.std.proofs.lemmas.Result.{err_from_is_err_and}
-use Rattle.twkb_num.specs.Cursor.{rest}
-use Rattle.twkb_head.specs.BegunHeader.{deepest, is_collection}
-use Rattle.twkb_head.specs.Header.{is_multi}
-use Rattle.twkb_head.specs.Raw.{head_said}
-use Rattle.twkb_body.specs.Extent.{Reach}
-use Rattle.twkb_body.specs.Devices.Body.{no_body}
-use Rattle.twkb_body.specs.Devices.BodyReader.{count_at, members_under}
-use Rattle.twkb_body.specs.Devices.Found.{named}
-use Rattle.twkb_body.specs.Devices.IdLists.{HasManyIdsAfterCount}
-use Rattle.twkb_body.specs.Devices.Inside.{of_head, shape_behind}
-use Rattle.twkb_body.specs.Devices.Seen.{in_units}
-use Rattle.twkb_body.specs.Devices.Stops.{ReadsParts}
+use Rattle.twkb_body.proofs.Prelude.{◌≡◌, ◌-◌, not, ◌==◌, false, Ok, refl, sym, ap, subst, ◌∙◌, arith, err_from_is_err_and, rest, deepest, is_collection, is_multi, head_said, Reach, no_body, count_at, members_under, named, HasManyIdsAfterCount, of_head, shape_behind, in_units, ReadsParts}
 use Rattle.twkb_body.proofs.Ending.{shape_stops, body_stops, body_ends}
 use Rattle.twkb_body.proofs.ExtentJudging.{nothing_judged}
 use Rattle.twkb_body.proofs.GeometrySteps.{empty_body, shape_body, nothing_found, nothing_inside}

@@ -1,14 +1,5 @@
 -- A count is read, and as many parts are shown to the visitor.
-use Rattle.std.proofs.Common.{rules, ◌≡◌, ℕ, true, Ok, refl, ap, ◌∙◌, arith}
-use Rattle.twkb_num.specs.Cursor.{Reading}
-use Rattle.twkb_head.proofs.Readings.{one_answer, no_failure}
-use Rattle.twkb_head.specs.Shared.Reader.{Reader}
-use Rattle.twkb_body.specs.Geometry.{PointValue, points_of}
-use Rattle.twkb_body.specs.Devices.Body.{Body}
-use Rattle.twkb_body.specs.Devices.Inside.{of_head, shape_behind, shown_all}
-use Rattle.twkb_body.specs.Devices.PointReader.{Stage, IsBefore}
-use Rattle.twkb_body.specs.Devices.Walk.{no_points, shown}
-use Rattle.twkb_body.specs.Devices.BodyReader.{many_parts_at}
+use Rattle.twkb_body.proofs.Prelude.{rules, ◌≡◌, ℕ, true, Ok, refl, ap, ◌∙◌, arith, Reading, one_answer, no_failure, Reader, PointValue, points_of, Body, of_head, shape_behind, shown_all, Stage, IsBefore, no_points, shown, many_parts_at}
 use Rattle.twkb_body.proofs.CertifiedWalks.{walk_shown, lent_back}
 use Rattle.twkb_body.proofs.ShapeSteps.{no_count, shape_shown, parts_read}
 use Rattle.twkb_body.proofs.shape.visit_shape.Goals as goal

@@ -1,5 +1,5 @@
 -- A certified geometry begins with a header, whose rest is read after its first two bytes.
-use Rattle.std.proofs.Common.{refl, arith}
+use Rattle.twkb_body.proofs.Prelude.{refl, arith}
 use Rattle.twkb_body.proofs.Entering.{two_left}
 use Rattle.twkb_body.proofs.HeadStands.{header_starts}
 use Rattle.twkb_body.proofs.step.enter.Goals as goal

@@ -1,14 +1,7 @@
 -- Each end of a step is on the way of the walk: hopped over, empty, or before its body.
-use Rattle.std.proofs.Common.{◌≡◌, ℕ, Bool, false, None, sym, subst}
-use Rattle.twkb_num.specs.Cursor.{Reading, passed}
-use Rattle.twkb_head.specs.Head.{IsHeadAt}
-use Rattle.twkb_head.specs.Raw.{head_said, fields_box}
-use Rattle.twkb_head.specs.declared.header.Head.{Head}
+use Rattle.twkb_body.proofs.Prelude.{◌≡◌, ℕ, Bool, false, None, sym, subst, Reading, passed, IsHeadAt, head_said, fields_box, Head, Fields, Bounds, Geometry, full_head, hop_of, IsBehind}
 use Rattle.std.specs.Prelude.{option_map}
-use Rattle.twkb_head.specs.declared.raw.Fields.{Fields}
-use Rattle.twkb_head.specs.declared.boxes.Bounds.{Bounds}
-use Rattle.twkb_body.specs.Geometry.{Geometry}
-use Rattle.twkb_body.specs.Devices.Skimmed.{full_head, hop_of, HasRead, IsBehind}
+use Rattle.twkb_body.specs.Devices.Skimmed.{HasRead}
 use Rattle.twkb_body.proofs.HeadStands.{hop_fits, hop_within, enter_hops, enter_empty}
 use Rattle.twkb_body.proofs.step.enter_after_header.Goals as goal
 

@@ -1,10 +1,5 @@
 -- A box that is skipped leads to the geometry's end, and any other to its body.
-use Rattle.std.proofs.Common.{◌≡◌, refl, sym, ap, ◌∙◌, arith}
-use Rattle.std.proofs.lemmas.Int.{ints}
-use mir.Val.{to_z, of_z}
-use Rattle.std.specs.Int.{w8}
-use Rattle.twkb_body.specs.Geometry.{member_count}
-use Rattle.twkb_body.specs.Devices.Skimmed.{Config}
+use Rattle.twkb_body.proofs.Prelude.{◌≡◌, refl, sym, ap, ◌∙◌, arith, ints, to_z, of_z, w8, member_count, Config}
 use Rattle.twkb_body.proofs.Beginning.{size_stands, size_fits, x_stands, y_stands, box_hop_within, box_hop_enters, box_behind, box_leads}
 use Rattle.twkb_body.proofs.Remaining.{none_left}
 use Rattle.twkb_body.proofs.step.enter_boxed.Goals as goal

@@ -1,10 +1,6 @@
 -- Where no members follow, the place is the geometry's end, and the size leads there.
-use Rattle.std.proofs.Common.{◌≡◌, ℕ, ◌+◌, Option, Some, None, IfSome, refl, sym, ap, ◌∙◌, arith}
+use Rattle.twkb_body.proofs.Prelude.{◌≡◌, ℕ, ◌+◌, Option, Some, None, IfSome, refl, sym, ap, ◌∙◌, arith, SizeField, head_said, member_count, Config}
 use Rattle.std.specs.Prelude.{option_map}
-use Rattle.twkb_head.specs.declared.header.SizeField.{SizeField}
-use Rattle.twkb_head.specs.Raw.{head_said}
-use Rattle.twkb_body.specs.Geometry.{member_count}
-use Rattle.twkb_body.specs.Devices.Skimmed.{Config}
 use Rattle.twkb_body.proofs.Headers.{sized_end}
 use Rattle.twkb_body.proofs.HeadStands.{hop_fits}
 use Rattle.twkb_body.proofs.Remaining.{none_left}

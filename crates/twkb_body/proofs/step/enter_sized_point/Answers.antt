@@ -1,10 +1,5 @@
 -- The size is read, and the point's numbers are next. They end where the size says.
-use Rattle.std.proofs.Common.{◌≡◌, ap, ◌∙◌, arith}
-use Rattle.std.proofs.lemmas.Int.{ints}
-use mir.Val.{to_z, of_z}
-use Rattle.std.specs.Int.{w8}
-use Rattle.twkb_body.specs.Geometry.{member_count}
-use Rattle.twkb_body.specs.Devices.Skimmed.{Config, flat_axes}
+use Rattle.twkb_body.proofs.Prelude.{◌≡◌, ap, ◌∙◌, arith, ints, to_z, of_z, w8, member_count, Config, flat_axes}
 use Rattle.twkb_body.proofs.Beginning.{sized_stands, sized_leads, sized_behind}
 use Rattle.twkb_body.proofs.Remaining.{none_left}
 use Rattle.twkb_body.proofs.step.enter_sized_point.Goals as goal

@@ -1,7 +1,5 @@
 -- Both ranges are near, and so are the zeros of the missing axes.
-use Rattle.std.proofs.Common.{pos, subst, sym, arith}
-use Rattle.std.proofs.lemmas.Int.{ints}
-use Rattle.twkb_head.specs.Raw.{IsNear, HasNearRanges}
+use Rattle.twkb_body.proofs.Prelude.{pos, subst, sym, arith, ints, IsNear, HasNearRanges}
 use Rattle.twkb_body.proofs.step.skips_flat.Goals as goal
 
 none_near : IsNear (record { minimum = pos 0; extent = pos 0 })

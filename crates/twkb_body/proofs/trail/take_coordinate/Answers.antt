@@ -1,10 +1,5 @@
 -- A sum that leaves 64 bits is refused at the number's first byte; else it is the coordinate.
-use Rattle.std.proofs.Common.{◌≡◌, refl, ap, ◌∙◌, arith, length}
-use Rattle.std.proofs.lemmas.Result.{err_from_is_err_and}
-use Rattle.std.proofs.lemmas.Int.{ints}
-use mir.Val.{to_z, of_z}
-use Rattle.std.specs.Int.{w64}
-use Rattle.twkb_head.proofs.Steps.{signed_moved, coordinate_no_signed, coordinate_ok, coordinate_refused, fits_true, fits_false}
+use Rattle.twkb_body.proofs.Prelude.{◌≡◌, refl, ap, ◌∙◌, arith, length, err_from_is_err_and, ints, to_z, of_z, w64, signed_moved, coordinate_no_signed, coordinate_ok, coordinate_refused, fits_true, fits_false}
 use Rattle.twkb_body.proofs.trail.take_coordinate.Goals as goal
 
 pub returns-in_err-number : goal.returns-in_err-number

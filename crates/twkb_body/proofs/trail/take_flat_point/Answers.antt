@@ -1,9 +1,6 @@
 -- The two numbers are the point that can be read, so their sums fit.
-use Rattle.std.proofs.Common.{◌≡◌, rules, ◌+ℤ◌, length, pos, slice_index_or, refl, ap, sym, subst, ◌∙◌, arith, Ok, to_z, of_z, w64}
-use Rattle.std.proofs.lemmas.Int.{ints}
-use Rattle.twkb_num.specs.Cursor.{Reading}
-use Rattle.twkb_body.specs.Devices.BodyReader.{point_at}
-use Rattle.twkb_body.specs.Devices.Body.{add}
+use Rattle.twkb_body.proofs.Prelude.{◌≡◌, rules, ◌+ℤ◌, length, pos, slice_index_or, refl, ap, sym, subst, ◌∙◌, arith, Ok, ints, Reading, point_at, add}
+use Rattle.std.proofs.Common.{to_z, of_z, w64}
 use Rattle.twkb_body.proofs.NumberRuns.{two_added, two_fit, two_stand, rows_ahead}
 use Rattle.twkb_body.proofs.trail.take_flat_point.Goals as goal
 

@@ -1,9 +1,5 @@
 -- Each turn of the loop reads one more coordinate; a malformed one ends the point.
-use Rattle.std.proofs.Common.{◌≡◌, pos, slice_index_or, refl, arith}
-use Rattle.std.proofs.lemmas.Result.{err_from_is_err_and}
-use Rattle.std.proofs.lemmas.Int.{ints}
-use mir.Val.{to_z, of_z}
-use Rattle.std.specs.Int.{w64}
+use Rattle.twkb_body.proofs.Prelude.{◌≡◌, pos, slice_index_or, refl, arith, err_from_is_err_and, ints, to_z, of_z, w64}
 use Rattle.twkb_body.proofs.Coordinates.{point_goes_on, point_fails, point_ends}
 use Rattle.twkb_body.proofs.trail.take_point.Goals as goal
 

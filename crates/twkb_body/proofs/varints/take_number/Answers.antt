@@ -1,6 +1,5 @@
 -- The number that was read, or its fault, is what the reader answers.
-use Rattle.std.proofs.Common.{refl}
-use Rattle.twkb_head.proofs.Steps.{read_number, read_no_number}
+use Rattle.twkb_body.proofs.Prelude.{refl, read_number, read_no_number}
 use Rattle.twkb_body.proofs.varints.take_number.Goals as goal
 
 pub returns-in-Ok : goal.returns-in-Ok

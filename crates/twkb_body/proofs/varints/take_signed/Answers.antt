@@ -1,9 +1,5 @@
 -- The number that was read, or its fault, is what the reader answers.
-use Rattle.std.proofs.Common.{refl, rules}
-use Rattle.std.proofs.lemmas.Int.{to_z-of_z}
-use mir.Val.{SFits}
-use Rattle.std.specs.Int.{w64}
-use Rattle.twkb_head.proofs.Steps.{read_signed, read_no_signed}
+use Rattle.twkb_body.proofs.Prelude.{refl, rules, to_z-of_z, SFits, w64, read_signed, read_no_signed}
 use Rattle.twkb_body.proofs.varints.take_signed.Goals as goal
 
 pub returns-in-Ok : goal.returns-in-Ok

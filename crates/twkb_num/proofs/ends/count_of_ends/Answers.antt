@@ -1,6 +1,5 @@
 -- Each end is one set bit.
-use Rattle.std.proofs.Common.{ap, ◌∙◌}
-use Rattle.std.specs.Int.RustNames.{count_ones}
+use Rattle.twkb_num.proofs.Prelude.{ap, ◌∙◌, count_ones}
 use Rattle.twkb_num.proofs.EndCounts.{ones_are_ends}
 use Rattle.twkb_num.proofs.ends.count_of_ends.Goals as goal
 

@@ -1,5 +1,5 @@
 -- A word with enough ends is the last; after one with fewer the loop goes on; at one that doesn't tell, the last end is sought.
-use Rattle.std.proofs.Common.{◌≡◌, ◌-◌, length, take, drop, ap, ◌∙◌, arith, refl}
+use Rattle.twkb_num.proofs.Prelude.{◌≡◌, ◌-◌, length, take, drop, ap, ◌∙◌, arith, refl}
 use Rattle.twkb_num.proofs.ManySpelled.{take-behind, ends_here, ends_go_on, loop_stops}
 use Rattle.twkb_num.proofs.ends.first_varints.Goals as goal
 

@@ -1,5 +1,5 @@
 -- All bytes from the size on go on.
-use Rattle.std.proofs.Common.{ℕ, ◌≤◌, ◌<◌, length, slice_index}
+use Rattle.twkb_num.proofs.Prelude.{ℕ, ◌≤◌, ◌<◌, length, slice_index}
 use Rattle.twkb_num.proofs.ends.last_end.Given as goal
 
 abbrev pub invariant-loop-size : goal.invariant-loop-size

@@ -1,5 +1,5 @@
 -- A byte ends a varint where its top isn't set.
-use Rattle.std.proofs.Common.{rules}
+use Rattle.twkb_num.proofs.Prelude.{rules}
 use Rattle.twkb_num.proofs.EndLemmas.{ends_are}
 use Rattle.twkb_num.proofs.ends.tops_of_ends.Goals as goal
 

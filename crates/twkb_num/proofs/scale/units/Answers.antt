@@ -1,7 +1,7 @@
 -- A coordinate of 65 bits and a power of ten to the fifteenth stay in 128 bits.
-use Rattle.std.proofs.Common.{◌≡◌, ℕ, ◌≤◌, ◌^◌, pos, ℤ, unsigned_abs, to_z, of_z, ◌-ℤ◌, ◌*ℤ◌, FitsSigned, refl, ap, subst, ◌∙◌, arith, rules}
-use Rattle.std.proofs.lemmas.Int.{ints, to_z-of_z, fits_signed_mul}
-use Rattle.std.specs.Int.{w8, w64, w128}
+use Rattle.twkb_num.proofs.Prelude.{◌≡◌, ℕ, ◌≤◌, ◌^◌, pos, ℤ, unsigned_abs, ◌-ℤ◌, ◌*ℤ◌, FitsSigned, refl, ap, subst, ◌∙◌, arith, rules, ints, to_z-of_z, fits_signed_mul, w64, w128}
+use Rattle.std.proofs.Common.{to_z, of_z}
+use Rattle.std.specs.Int.{w8}
 use Rattle.twkb_num.proofs.scale.units.Goals as goal
 
 pub returns : goal.returns

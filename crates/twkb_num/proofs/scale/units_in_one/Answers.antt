@@ -1,8 +1,7 @@
 -- The table has the powers of ten.
-use Rattle.std.proofs.Common.{◌≡◌, ℕ, ◌<◌, ◌≤◌, ◌^◌, pos, ℤ, List, [], ◌∷◌, slice_index_or, unsigned_abs, to_z, of_z, ◌-ℤ◌, FitsSigned, ap, ◌∙◌, arith, rules}
-use Rattle.std.proofs.lemmas.Int.{ints, to_z-of_z}
-use Rattle.std.proofs.Math.Nat.{pow-le-pow_right}
-use Rattle.std.specs.Int.{w8, w64}
+use Rattle.twkb_num.proofs.Prelude.{◌≡◌, ℕ, ◌<◌, ◌≤◌, ◌^◌, pos, ℤ, List, [], ◌∷◌, slice_index_or, unsigned_abs, ◌-ℤ◌, FitsSigned, ap, ◌∙◌, arith, rules, ints, to_z-of_z, pow-le-pow_right, w64}
+use Rattle.std.proofs.Common.{to_z, of_z}
+use Rattle.std.specs.Int.{w8}
 use Rattle.twkb_num.proofs.scale.units_in_one.Goals as goal
 
 -- the table, as a proof reads it

@@ -1,5 +1,5 @@
 -- An odd number means a negative one.
-use Rattle.std.proofs.Common.{rules}
+use Rattle.twkb_num.proofs.Prelude.{rules}
 use Rattle.twkb_num.proofs.signed.unzigzag.Goals as goal
 
 pub returns-else-number-eq0 : goal.returns-else-number-eq0

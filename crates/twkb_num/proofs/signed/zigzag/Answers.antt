@@ -1,5 +1,5 @@
 -- The number means the value, by zigzag, and no other number does.
-use Rattle.std.proofs.Common.{rules}
+use Rattle.twkb_num.proofs.Prelude.{rules}
 use Rattle.twkb_num.proofs.signed.zigzag.Goals as goal
 
 pub returns-then-value-ge0-clause-meaning : goal.returns-then-value-ge0-clause-meaning

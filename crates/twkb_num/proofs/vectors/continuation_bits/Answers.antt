@@ -1,9 +1,5 @@
 -- Bit i of the mask is the top bit of lane i.
-use Rattle.std.proofs.Common.{◌≡◌, ℕ, ◌/◌, ◌%◌, ◌<◌, ◌^◌, List, Bool, false, map, length, replicate, get_or, cond, leb, ap, ◌∙◌, arith, w8, inl, inr}
-use Rattle.std.proofs.lemmas.Bool.{cases_lt, lt-leb, le-leb, cond-true, cond-false}
-use Rattle.std.proofs.lemmas.List.{length-map, get_or-map}
-use Rattle.std.proofs.lemmas.Simd.{tops_compared, zip2_splat_left, mask_l-mod, bit_mask_l, Each1-get_or, below_from_Fits}
-use lib.Lanes.{mask_l}
+use Rattle.twkb_num.proofs.Prelude.{◌≡◌, ℕ, ◌/◌, ◌%◌, ◌<◌, ◌^◌, List, Bool, false, map, length, replicate, get_or, cond, leb, ap, ◌∙◌, arith, w8, inl, inr, cases_lt, lt-leb, le-leb, cond-true, cond-false, length-map, get_or-map, tops_compared, zip2_splat_left, mask_l-mod, bit_mask_l, Each1-get_or, below_from_Fits, mask_l}
 use Rattle.twkb_num.proofs.vectors.continuation_bits.Goals as goal
 
 pub returns : goal.returns

@@ -1,7 +1,6 @@
 -- The lanes are twice the numbers of two groups each.
-use Rattle.std.proofs.Common.{ℕ, ◌+◌, ◌*◌, ◌%◌, List, bit_and, sym, refl, ap, ◌∙◌, map}
-use Rattle.std.proofs.lemmas.Simd.{zip2_splat, zip2_of_maps, map-map}
-use lib.Lanes.{number_l, digits_l}
+use Rattle.twkb_num.proofs.Prelude.{ℕ, ◌+◌, ◌*◌, ◌%◌, List, sym, refl, ap, ◌∙◌, map, zip2_splat, zip2_of_maps, map-map, number_l, digits_l}
+use Rattle.std.proofs.Common.{bit_and}
 use Rattle.twkb_num.proofs.LaneLaws.{two_groups, twice_16}
 use Rattle.twkb_num.proofs.LaneLemmas.{narrow_lanes}
 use Rattle.twkb_num.proofs.vectors.doubled_numbers.Goals as goal

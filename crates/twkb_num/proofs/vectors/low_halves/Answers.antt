@@ -1,7 +1,6 @@
 -- The first halves of two vectors.
-use Rattle.std.proofs.Common.{◌≡◌, ℕ, ◌+◌, ◌-◌, ◌<◌, List, [], ◌∷◌, ◌++◌, true, ◌&&◌, eqb, get_or, ap, ◌∙◌, refl, arith}
-use Rattle.std.proofs.lemmas.Bool.{and_parts, eqb-true}
-use Rattle.std.proofs.lemmas.List.{get_or-map, get_or_append_left, get_or-append_right}
+use Rattle.twkb_num.proofs.Prelude.{◌≡◌, ℕ, ◌+◌, ◌-◌, ◌<◌, List, [], ◌∷◌, ◌++◌, true, ◌&&◌, eqb, get_or, ap, ◌∙◌, refl, arith, and_parts, eqb-true, get_or-map, get_or_append_left}
+use Rattle.std.proofs.lemmas.List.{get_or-append_right}
 use Rattle.twkb_num.proofs.Below.{true_below}
 use Rattle.twkb_num.proofs.vectors.low_halves.Goals as goal
 

@@ -1,9 +1,5 @@
 -- The lanes are numbers of two groups each, halved and turned.
-use Rattle.std.proofs.Common.{ℕ, ◌*◌, ◌^◌, List, [], ◌∷◌, sym, subst, refl, arith, w16}
-use Rattle.std.specs.Prelude.{All}
-use Rattle.std.proofs.lemmas.Nat.Bits.{and_pow}
-use Rattle.twkb_num.specs.Varint.{IsBrief}
-use Rattle.twkb_num.specs.Devices.Lanes.{value_at}
+use Rattle.twkb_num.proofs.Prelude.{ℕ, ◌*◌, ◌^◌, List, [], ◌∷◌, sym, subst, refl, arith, w16, All, and_pow, IsBrief, value_at}
 use Rattle.twkb_num.proofs.LaneLaws.{lanes_mean, means_within, all_mean}
 use Rattle.twkb_num.proofs.vectors.meant_narrow.Goals as goal
 

@@ -1,9 +1,5 @@
 -- The lanes are numbers of four groups each, halved and turned.
-use Rattle.std.proofs.Common.{ℕ, ◌*◌, ◌^◌, List, [], ◌∷◌, sym, subst, refl, arith, w32}
-use Rattle.std.specs.Prelude.{All}
-use Rattle.std.proofs.lemmas.Nat.Bits.{and_pow}
-use Rattle.twkb_num.specs.Varint.{IsShort}
-use Rattle.twkb_num.specs.Devices.Lanes.{value_at}
+use Rattle.twkb_num.proofs.Prelude.{ℕ, ◌*◌, ◌^◌, List, [], ◌∷◌, sym, subst, refl, arith, w32, All, and_pow, IsShort, value_at}
 use Rattle.twkb_num.proofs.LaneLaws.{joined_lanes, lanes_mean, all_mean, means_within}
 use Rattle.twkb_num.proofs.vectors.meant_wide.Goals as goal
 

@@ -1,8 +1,5 @@
 -- Two rows, one after the other, are eight numbers.
-use Rattle.std.proofs.Common.{◌≡◌, ℕ, ◌%◌, List, ◌++◌, map, ap, ◌∙◌, arith, w16}
-use Rattle.std.specs.Int.{cast_signed}
-use Rattle.twkb_num.specs.Varint.{zigzag_value}
-use Rattle.twkb_num.specs.Devices.Lanes.{values}
+use Rattle.twkb_num.proofs.Prelude.{◌≡◌, ℕ, ◌%◌, List, ◌++◌, map, ap, ◌∙◌, arith, w16, cast_signed, zigzag_value, values}
 use Rattle.twkb_num.proofs.LaneLemmas.{front_tops, first_tops, second_tops, first_piece, second_piece, flag_place, lanes_spell, narrow_values}
 use Rattle.twkb_num.proofs.vectors.narrow_eight.Goals as goal
 

@@ -1,9 +1,5 @@
 -- Three numbers of a row, and three of the row after them, are six numbers.
-use Rattle.std.proofs.Common.{◌≡◌, ℕ, ◌%◌, List, ◌++◌, map, ap, ◌∙◌, w16}
-use Rattle.std.specs.Int.{cast_signed}
-use Rattle.twkb_num.specs.Numbers.{points_in}
-use Rattle.twkb_num.specs.Varint.{zigzag_value}
-use Rattle.twkb_num.specs.Devices.Lanes.{values}
+use Rattle.twkb_num.proofs.Prelude.{◌≡◌, ℕ, ◌%◌, List, ◌++◌, map, ap, ◌∙◌, w16, cast_signed, points_in, zigzag_value, values}
 use Rattle.twkb_num.proofs.LaneLemmas.{first_tops, tops_of_front, second_tops, first_piece, second_piece, flag_place, lanes_spell, narrow_values}
 use Rattle.twkb_num.proofs.vectors.narrow_six.Goals as goal
 

@@ -1,10 +1,7 @@
 -- A masked place picks the byte that the place picks, or zero.
-use Rattle.std.proofs.Common.{List, map, get_or, cond, leb, eqb, ◌*◌, ◌/◌, ◌%◌, ap, ◌∙◌, sym, inl, inr, ◌≡◌, ℕ, ◌+◌, ◌<◌, ◌≤◌, ◌||◌, ◌&&◌, true, T, ltb, length, replicate, refl, bit_and, arith, w8}
-use Rattle.std.proofs.lemmas.Bool.{cases_Bool, leb-true, eqb-true, le-ltb, cond-true, cond-false, and_parts}
-use Rattle.std.proofs.lemmas.List.{length-map, get_or-map}
-use Rattle.std.proofs.lemmas.Simd.{Each1-zip2, Each1-weaker, Each2-splat, SwzOk-from_Each1, length-zip2, below_from_Fits, Each1-get_or, zip2_splat, swz_l, get_or-swz_l}
+use Rattle.twkb_num.proofs.Prelude.{List, map, get_or, cond, leb, eqb, ◌*◌, ◌/◌, ◌%◌, ap, ◌∙◌, sym, inl, inr, ◌≡◌, ℕ, ◌+◌, ◌<◌, ◌≤◌, ◌||◌, ◌&&◌, true, T, ltb, length, replicate, refl, arith, w8, cases_Bool, leb-true, eqb-true, le-ltb, cond-true, cond-false, and_parts, length-map, get_or-map, Each1-zip2, Each1-weaker, Each2-splat, SwzOk-from_Each1, length-zip2, below_from_Fits, Each1-get_or, zip2_splat, swz_l, get_or-swz_l, zeroes}
+use Rattle.std.proofs.Common.{bit_and}
 use Rattle.twkb_num.proofs.Below.{every_below, true_below}
-use mir.Val.{zeroes}
 use Rattle.twkb_num.proofs.vectors.picked.Goals as goal
 
 pub swizzle : goal.swizzle

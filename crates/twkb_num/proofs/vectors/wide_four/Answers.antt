@@ -1,8 +1,5 @@
 -- Two rows, one after the other, are four numbers.
-use Rattle.std.proofs.Common.{◌≡◌, ℕ, ◌%◌, List, ◌++◌, map, ap, ◌∙◌, w32}
-use Rattle.std.specs.Int.{cast_signed}
-use Rattle.twkb_num.specs.Varint.{zigzag_value}
-use Rattle.twkb_num.specs.Devices.Lanes.{values}
+use Rattle.twkb_num.proofs.Prelude.{◌≡◌, ℕ, ◌%◌, List, ◌++◌, map, ap, ◌∙◌, w32, cast_signed, zigzag_value, values}
 use Rattle.twkb_num.proofs.LaneLemmas.{first_tops, tops_of_front, second_tops, first_piece, second_piece, flag_place, lanes_spell, wide_values}
 use Rattle.twkb_num.proofs.vectors.wide_four.Goals as goal
 

@@ -1,5 +1,5 @@
 -- One row is two numbers.
-use Rattle.std.proofs.Common.{refl}
+use Rattle.twkb_num.proofs.Prelude.{refl}
 use Rattle.twkb_num.proofs.LaneLemmas.{first_tops, pair_spelled}
 use Rattle.twkb_num.proofs.vectors.wide_pair.Goals as goal
 

@@ -1,8 +1,5 @@
 -- A row and the first number of the row after it are three numbers.
-use Rattle.std.proofs.Common.{◌≡◌, ℕ, ◌%◌, List, ◌++◌, map, take, ap, ◌∙◌, w32}
-use Rattle.std.specs.Int.{cast_signed}
-use Rattle.twkb_num.specs.Varint.{zigzag_value}
-use Rattle.twkb_num.specs.Devices.Lanes.{values}
+use Rattle.twkb_num.proofs.Prelude.{◌≡◌, ℕ, ◌%◌, List, ◌++◌, map, take, ap, ◌∙◌, w32, cast_signed, zigzag_value, values}
 use Rattle.twkb_num.proofs.LaneLemmas.{first_tops, tops_of_front, second_tops, first_piece, second_piece, flag_place, lanes_spell, wide_values}
 use Rattle.twkb_num.proofs.vectors.wide_three.Goals as goal
 

@@ -1,9 +1,5 @@
 -- Points are shown up to where the visitor is settled, and the others are passed.
-use Rattle.std.proofs.Common.{◌-◌, ℕ, refl, subst, ap, ◌∙◌, arith}
-use Rattle.twkb_head.specs.declared.raw.Axes.{Axes}
-use Rattle.twkb_body.specs.Geometry.{vertex_at, vertex_of}
-use Rattle.twkb_body.specs.Devices.Inside.{of_head}
-use Rattle.twkb_body.specs.Devices.Walk.{IsStill, shown}
+use Rattle.twkb_body.proofs.Prelude.{◌-◌, ℕ, refl, subst, ap, ◌∙◌, arith, Axes, vertex_at, vertex_of, of_head, IsStill, shown}
 use Rattle.twkb_body.proofs.CertifiedWalks.{point_shown, shown_none, shown_reads, shown_counted, shown_rest, shown_ends, shown_passed}
 use Rattle.twkb_body.proofs.PointReads.{points_read}
 use Rattle.twkb_body.proofs.Settling.{ArePassed}

@@ -1,9 +1,5 @@
 -- The points so far were shown, and are no more than `count`.
-use Rattle.std.proofs.Common.{◌≡◌, ◌-◌, ◌≤◌}
-use Rattle.std.specs.Borrow.{GName}
-use Rattle.twkb_head.specs.Header.{Header}
-use Rattle.twkb_body.specs.Devices.PointReader.{Stage}
-use Rattle.twkb_body.specs.Devices.Walk.{shown}
+use Rattle.twkb_body.proofs.Prelude.{◌≡◌, ◌-◌, ◌≤◌, GName, Header, Stage, shown}
 use Rattle.twkb_body.proofs.CertifiedWalks.{AreBefore, HasShown}
 use Rattle.twkb_body.proofs.certified_walk.CertifiedWalkPointReader.take_points.Given as goal
 

@@ -1,7 +1,4 @@
-use Rattle.std.proofs.Common.{◌≡◌, ℕ, zero, suc, ◌<◌, ◌≤◌, ◌∙◌, List, [], ◌∷◌, sym, ap, refl, slice_index, arith}
-use Rattle.std.specs.Prelude.{nat_le, ◌&&◌}
-use Rattle.std.proofs.lemmas.Bool.{leb-true}
-use Rattle.twkb_body.specs.Devices.Extents.{lane_sum}
+use Rattle.twkb_body.proofs.Prelude.{◌≡◌, ℕ, zero, suc, ◌<◌, ◌≤◌, ◌∙◌, List, [], ◌∷◌, sym, ap, refl, slice_index, arith, nat_le, ◌&&◌, leb-true, lane_sum}
 use Rattle.twkb_body.proofs.LaneSums.{both_true}
 use Rattle.twkb_body.proofs.ExtentLanes.{room_at}
 use Rattle.twkb_body.proofs.extent_lanes.Lanes.have_room.Goals as goal

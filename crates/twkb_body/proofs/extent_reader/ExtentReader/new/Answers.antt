@@ -1,7 +1,5 @@
 -- There are no points yet.
-use Rattle.std.proofs.Common.{refl, sym, ◌∙◌, subst, arith}
-use Rattle.twkb_num.proofs.TakeLemmas.{few_axes}
-use Rattle.twkb_num.specs.Numbers.{IsAxes}
+use Rattle.twkb_body.proofs.Prelude.{refl, sym, ◌∙◌, subst, arith, few_axes, IsAxes}
 use Rattle.twkb_body.proofs.ExtentRuns.{axes_known, no_coordinate, none_reach}
 use Rattle.twkb_body.proofs.extent_reader.ExtentReader.new.Goals as goal
 

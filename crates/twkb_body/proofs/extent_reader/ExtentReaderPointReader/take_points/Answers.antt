@@ -1,7 +1,5 @@
 -- The numbers of the points were taken; or they can't be read, or some coordinate doesn't fit.
-use Rattle.std.proofs.Common.{[], sym, ap, ◌∙◌, subst, arith}
-use Rattle.twkb_num.specs.Cursor.{Reading}
-use Rattle.twkb_num.specs.Numbers.{IsAxes}
+use Rattle.twkb_body.proofs.Prelude.{[], sym, ap, ◌∙◌, subst, arith, Reading, IsAxes}
 use Rattle.twkb_body.proofs.ExtentRuns.{axes_known, two_few, took_nothing, run_read, run_stops, run_leaving}
 use Rattle.twkb_body.proofs.NumberRuns.{rows_ahead}
 use Rattle.twkb_body.proofs.extent_reader.ExtentReaderPointReader.take_points.Goals as goal

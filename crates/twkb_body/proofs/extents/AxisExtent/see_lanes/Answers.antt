@@ -1,10 +1,5 @@
 -- The range of the lanes is joined to the range before, if there is one.
-use Rattle.std.proofs.Common.{◌≡◌, [], ◌∷◌, Option, ap, ◌∙◌, arith}
-use Rattle.std.proofs.lemmas.Int.{ints}
-use Rattle.std.specs.Int.{w64}
-use mir.Val.{to_z, of_z}
-use Rattle.twkb_head.specs.declared.boxes.Span.{Span}
-use Rattle.twkb_body.specs.Extent.{joined, span_of}
+use Rattle.twkb_body.proofs.Prelude.{◌≡◌, [], ◌∷◌, Option, ap, ◌∙◌, arith, ints, w64, to_z, of_z, Span, joined, span_of}
 use Rattle.twkb_body.proofs.ExtentLanes.{ends_joined, no_ends}
 use Rattle.twkb_body.proofs.extents.AxisExtent.see_lanes.Goals as goal
 use Rattle.twkb_body.proofs.extents.AxisExtent.see_lanes.Goals.{then-least-greatest, else-least-greatest}

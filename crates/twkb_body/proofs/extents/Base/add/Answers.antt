@@ -1,10 +1,6 @@
 -- The axis of the number grows by it.
-use Rattle.std.proofs.Common.{◌≡◌, ◌+◌, ◌==◌, ℤ, Bool, refl, ◌∙◌, subst, arith, w64}
-use Rattle.std.proofs.lemmas.Int.{ints}
-use mir.Val.{to_z, of_z}
-use Rattle.twkb_body.specs.declared.extents.Base.{Base}
-use Rattle.twkb_body.specs.Devices.Extents.{AddsToBase}
-use Rattle.std.specs.Prelude.{◌||◌, ◌&&◌}
+use Rattle.twkb_body.proofs.Prelude.{◌≡◌, ◌+◌, ◌==◌, ℤ, Bool, refl, ◌∙◌, subst, arith, ints, to_z, of_z, Base, AddsToBase, ◌||◌, ◌&&◌}
+use Rattle.std.proofs.Common.{w64}
 use Rattle.twkb_body.proofs.LaneSums.{both_true}
 use Rattle.twkb_body.proofs.ExtentSteps.{AddsTo, added_stays, added_leaves, of_four, none_leaves, some_leaves, each_adds, left_now}
 use Rattle.twkb_body.proofs.extents.Base.add.Goals as goal

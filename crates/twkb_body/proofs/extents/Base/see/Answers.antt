@@ -1,7 +1,5 @@
 -- The range of an axis's lanes is joined to its range before.
-use Rattle.std.proofs.Common.{zero, suc, ap, ◌∙◌, arith}
-use Rattle.std.proofs.lemmas.Bool.{lt-ltb}
-use Rattle.twkb_body.specs.Extent.{joined}
+use Rattle.twkb_body.proofs.Prelude.{zero, suc, ap, ◌∙◌, arith, lt-ltb, joined}
 use Rattle.twkb_body.proofs.ExtentLanes.{settles, settles_by}
 use Rattle.twkb_body.proofs.extents.Base.see.Goals as goal
 

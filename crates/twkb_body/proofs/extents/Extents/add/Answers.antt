@@ -1,11 +1,6 @@
 -- The base sees the points in lanes, and then the axis of the number grows by it.
-use Rattle.std.proofs.Common.{◌≡◌, ◌∙◌, ◌<◌, ℕ, ℤ, Some, sym, ap, subst, arith, w64}
-use Rattle.std.proofs.lemmas.Int.{ints}
-use mir.Val.{to_z, of_z}
-use Rattle.twkb_body.specs.declared.extents.Base.{Base}
-use Rattle.twkb_body.specs.declared.extent_lanes.Lanes.{Lanes}
-use Rattle.twkb_body.specs.Devices.Columns.{sum_fits}
-use Rattle.twkb_body.specs.Devices.Extents.{axis_in, base_of, base_or_zero, last_from, last_of, range_from, AreHeld, AddsNumber}
+use Rattle.twkb_body.proofs.Prelude.{◌≡◌, ◌∙◌, ◌<◌, ℕ, ℤ, Some, sym, ap, subst, arith, ints, to_z, of_z, Base, Lanes, sum_fits, axis_in, base_of, base_or_zero, last_from, last_of, range_from, AreHeld, AddsNumber}
+use Rattle.std.proofs.Common.{w64}
 use Rattle.twkb_body.proofs.ExtentLanes.{settles}
 use Rattle.twkb_body.proofs.ExtentSteps.{added_after, alone}
 use Rattle.twkb_body.proofs.extents.Extents.add.Goals as goal

@@ -1,9 +1,5 @@
 -- The lanes are seen as the numbers of whole points, four and then four.
-use Rattle.std.proofs.Common.{rules, ℕ, ℤ, List, [], ◌∷◌, refl, sym, subst, w16}
-use Rattle.std.specs.Prelude.{All}
-use Rattle.twkb_num.specs.Varint.{IsBrief}
-use Rattle.twkb_num.specs.Numbers.{TakesOn, points_in}
-use Rattle.twkb_body.specs.Devices.Extents.{Took, Sees}
+use Rattle.twkb_body.proofs.Prelude.{rules, ℕ, ℤ, List, [], ◌∷◌, refl, sym, subst, w16, All, IsBrief, TakesOn, points_in, Took, Sees}
 use Rattle.twkb_body.proofs.QuadReads.{eight_of}
 use Rattle.twkb_body.proofs.ExtentSteps.{took_more, eight_seen, with_lanes}
 use Rattle.twkb_body.proofs.extents.ExtentsTakePoints.take_narrow.Goals as goal

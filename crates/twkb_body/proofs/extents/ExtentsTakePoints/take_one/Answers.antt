@@ -1,8 +1,6 @@
 -- A number is added to its axis.
-use Rattle.std.proofs.Common.{◌≡◌, arith, w64}
-use Rattle.std.proofs.lemmas.Int.{ints}
-use mir.Val.{to_z, of_z}
-use Rattle.twkb_num.proofs.TakeLemmas.{few_axes}
+use Rattle.twkb_body.proofs.Prelude.{◌≡◌, arith, ints, to_z, of_z, few_axes}
+use Rattle.std.proofs.Common.{w64}
 use Rattle.twkb_body.proofs.ExtentSteps.{took_one}
 use Rattle.twkb_body.proofs.extents.ExtentsTakePoints.take_one.Goals as goal
 

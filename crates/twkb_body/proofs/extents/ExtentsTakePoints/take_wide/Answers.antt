@@ -1,9 +1,5 @@
 -- The lanes are seen as the numbers of whole points.
-use Rattle.std.proofs.Common.{rules, ℕ, ℤ, List, [], ◌∷◌, take, refl, sym, subst, w32}
-use Rattle.std.specs.Prelude.{All}
-use Rattle.twkb_num.specs.Varint.{IsShort}
-use Rattle.twkb_num.specs.Numbers.{TakesOn}
-use Rattle.twkb_body.specs.Devices.Extents.{Took, Sees}
+use Rattle.twkb_body.proofs.Prelude.{rules, ℕ, ℤ, List, [], ◌∷◌, take, refl, sym, subst, w32, All, IsShort, TakesOn, Took, Sees}
 use Rattle.twkb_body.proofs.QuadReads.{four_of}
 use Rattle.twkb_body.proofs.ExtentSteps.{took_more, wide_seen, with_lanes, zeros_mean}
 use Rattle.twkb_body.proofs.extents.ExtentsTakePoints.take_wide.Goals as goal

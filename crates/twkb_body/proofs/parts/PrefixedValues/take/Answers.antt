@@ -1,6 +1,5 @@
 -- One more list is read at each turn: its length, and then as many values.
-use Rattle.std.proofs.Common.{arith}
-use Rattle.std.proofs.lemmas.Result.{err_from_is_err_and}
+use Rattle.twkb_body.proofs.Prelude.{arith, err_from_is_err_and}
 use Rattle.twkb_body.proofs.ListReads.{lists_begin, lists_ready, lists_go_on, lists_end, values_fail, length_fails}
 use Rattle.twkb_body.proofs.parts.PrefixedValues.take.Goals as goal
 

@@ -1,11 +1,7 @@
 -- The greatest is no further from the minimum than the extent.
-use Rattle.std.proofs.Common.{◌≡◌, ◌+◌, ◌-◌, ◌%◌, ◌==◌, ℕ, Bool, not, true, ℤ, pos, ◌+ℤ◌, ◌≤ℤ◌, arith, sym, ap, ◌∙◌, subst, w64, Some}
-use Rattle.std.specs.Prelude.{◌&&◌}
-use Rattle.std.proofs.lemmas.Int.{ints}
-use mir.Val.{to_z, of_z}
+use Rattle.twkb_body.proofs.Prelude.{◌≡◌, ◌+◌, ◌-◌, ◌%◌, ◌==◌, ℕ, Bool, not, true, ℤ, pos, ◌+ℤ◌, ◌≤ℤ◌, arith, sym, ap, ◌∙◌, subst, Some, ◌&&◌, ints, to_z, of_z, IsCovered, span_in}
+use Rattle.std.proofs.Common.{w64}
 use lib.Signed.{le_z}
-use Rattle.twkb_body.specs.Extent.{IsCovered}
-use Rattle.twkb_body.specs.Devices.Ranges.{span_in}
 use Rattle.twkb_body.proofs.LaneSums.{both_true}
 use Rattle.twkb_body.proofs.RangeEnds.{held_by_ends, wrapped_reach}
 use Rattle.twkb_body.proofs.range.Range.is_held_by.Goals as goal

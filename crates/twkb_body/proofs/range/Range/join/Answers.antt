@@ -1,10 +1,6 @@
 -- The lesser of the least and the greater of the greatest.
-use Rattle.std.proofs.Common.{◌≡◌, arith, w64, ap₂, ◌∙◌}
-use Rattle.std.proofs.lemmas.Int.{ints, clamps}
-use Rattle.std.specs.Int.{int_min, int_max}
-use mir.Val.{to_z, of_z}
-use Rattle.twkb_body.specs.Extent.{joined}
-use Rattle.twkb_body.specs.Devices.Ranges.{range_view}
+use Rattle.twkb_body.proofs.Prelude.{◌≡◌, arith, ap₂, ◌∙◌, ints, clamps, int_min, int_max, to_z, of_z, joined, range_view}
+use Rattle.std.proofs.Common.{w64}
 use Rattle.twkb_body.proofs.RangeEnds.{joined_ends, joined_views}
 use Rattle.twkb_body.proofs.range.Range.join.Goals as goal
 

@@ -1,6 +1,5 @@
 -- Joining raw ranges is joining them in units. Without Z and M, those of X and Y are all.
-use Rattle.std.proofs.Common.{◌∙◌}
-use Rattle.twkb_body.specs.Devices.Seen.{in_units}
+use Rattle.twkb_body.proofs.Prelude.{◌∙◌, in_units}
 use Rattle.twkb_body.proofs.SeenRuns.{flat_joined, in_units_joined}
 use Rattle.twkb_body.proofs.range.Ranges.join.Goals as goal
 

@@ -1,8 +1,5 @@
 -- Ranges of the same axes are joined in raw coordinates, which is joining them in units.
-use Rattle.std.proofs.Common.{◌≡◌, sym, ap, ◌∙◌}
-use Rattle.twkb_head.specs.declared.raw.Axes.{Axes}
-use Rattle.twkb_body.specs.Extent.{both}
-use Rattle.twkb_body.specs.Devices.Seen.{Seen, in_units, reach_if}
+use Rattle.twkb_body.proofs.Prelude.{◌≡◌, sym, ap, ◌∙◌, Axes, both, Seen, in_units, reach_if}
 use Rattle.twkb_body.proofs.SeenRuns.{raw_grows}
 use Rattle.twkb_body.proofs.seen.Seen.add.Goals as goal
 

@@ -1,7 +1,5 @@
 -- Vertices in units are merged with the others.
-use Rattle.std.proofs.Common.{sym, ap, ◌∙◌}
-use Rattle.twkb_body.specs.Extent.{both}
-use Rattle.twkb_body.specs.Devices.Seen.{Seen, in_units, reach_if}
+use Rattle.twkb_body.proofs.Prelude.{sym, ap, ◌∙◌, both, Seen, in_units, reach_if}
 use Rattle.twkb_body.proofs.Reaches.{both-assoc}
 use Rattle.twkb_body.proofs.seen.Seen.add_others.Goals as goal
 

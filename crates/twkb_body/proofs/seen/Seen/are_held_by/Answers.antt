@@ -1,11 +1,5 @@
 -- If all vertices are under headers of the box's own axes, the box is compared with their raw ranges.
-use Rattle.std.proofs.Common.{◌≡◌, not, ◌==◌, sym, ap, ◌∙◌}
-use Rattle.std.proofs.lemmas.Bool.{false≢true}
-use Rattle.twkb_head.specs.Raw.{head_said}
-use Rattle.twkb_body.specs.Extent.{Reach, both}
-use Rattle.twkb_body.specs.Devices.Found.{box_judged}
-use Rattle.twkb_body.specs.Devices.Inside.{of_head}
-use Rattle.twkb_body.specs.Devices.Seen.{Seen, in_units, reach_if}
+use Rattle.twkb_body.proofs.Prelude.{◌≡◌, not, ◌==◌, sym, ap, ◌∙◌, false≢true, head_said, Reach, both, box_judged, of_head, Seen, in_units, reach_if}
 use Rattle.twkb_body.proofs.ExtentJudging.{held_judged}
 use Rattle.twkb_body.proofs.SeenRuns.{only_raw}
 use Rattle.twkb_body.proofs.seen.Seen.are_held_by.Goals as goal

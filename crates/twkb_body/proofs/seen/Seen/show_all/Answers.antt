@@ -1,7 +1,5 @@
 -- The ranges and the other vertices below are added one after another, which is adding their whole reach.
-use Rattle.std.proofs.Common.{sym, ap, ◌∙◌}
-use Rattle.twkb_body.specs.Extent.{both}
-use Rattle.twkb_body.specs.Devices.Seen.{Seen, in_units, reach_if}
+use Rattle.twkb_body.proofs.Prelude.{sym, ap, ◌∙◌, both, Seen, in_units, reach_if}
 use Rattle.twkb_body.proofs.Reaches.{both-assoc, both-none}
 use Rattle.twkb_body.proofs.seen.Seen.show_all.Goals as goal
 

@@ -1,5 +1,5 @@
 -- No vertex has been shown.
-use Rattle.std.proofs.Common.{rules}
+use Rattle.twkb_body.proofs.Prelude.{rules}
 use Rattle.twkb_body.proofs.summary.Summary.new.Goals as goal
 
 pub returns : goal.returns

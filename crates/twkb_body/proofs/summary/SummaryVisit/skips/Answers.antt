@@ -1,5 +1,5 @@
 -- Nothing is skipped.
-use Rattle.std.proofs.Common.{rules}
+use Rattle.twkb_body.proofs.Prelude.{rules}
 use Rattle.twkb_body.proofs.summary.SummaryVisit.skips.Goals as goal
 
 pub returns : goal.returns

@@ -1,10 +1,5 @@
 -- Each turn adds one more point; a malformed point ends the reading.
-use Rattle.std.proofs.Common.{◌≡◌, ℕ, Ok, subst, ◌∙◌, arith}
-use Rattle.std.proofs.lemmas.Result.{err_from_is_err_and}
-use Rattle.twkb_head.specs.Shared.Reader.{Fails}
-use Rattle.twkb_body.specs.Devices.BodyReader.{point_at}
-use Rattle.twkb_body.specs.Devices.Body.{add}
-use Rattle.twkb_body.specs.Devices.Walk.{IsPoint}
+use Rattle.twkb_body.proofs.Prelude.{◌≡◌, ℕ, Ok, subst, ◌∙◌, arith, err_from_is_err_and, Fails, point_at, add, IsPoint}
 use Rattle.twkb_body.proofs.Keeping.{keeps_point, read_keeps, failure_keeps}
 use Rattle.twkb_body.proofs.PointReads.{points_read}
 use Rattle.twkb_body.proofs.WalkReads.{same, loop_read, loop_ended}

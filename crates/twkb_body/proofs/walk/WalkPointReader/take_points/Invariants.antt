@@ -1,5 +1,5 @@
 -- The points so far were read.
-use Rattle.std.proofs.Common.{◌≡◌}
+use Rattle.twkb_body.proofs.Prelude.{◌≡◌}
 use Rattle.twkb_body.proofs.WalkReads.{Loop}
 use Rattle.twkb_body.proofs.walk.WalkPointReader.take_points.Given as goal
 

@@ -1,5 +1,5 @@
 -- The cursor moves over one byte, and counts it.
-use Rattle.std.proofs.Common.{rules}
+use Rattle.twkb_num.proofs.Prelude.{rules}
 use Rattle.twkb_num.proofs.cursor.Cursor.byte.Goals as goal
 
 pub returns-clause-moved : goal.returns-clause-moved

@@ -1,10 +1,6 @@
 -- Each turn reads one number more.
-use Rattle.std.proofs.Common.{◌≡◌, ◌<◌, [], ◌∷◌, take, length, w64, subst, sym, ◌∙◌, arith, rules}
-use Rattle.std.proofs.lemmas.Int.{ints}
-use Rattle.std.proofs.lemmas.List.{take_more_set, length-take-le, take_all}
-use Rattle.std.proofs.Math.ListN.{length-set}
-use mir.Val.{to_z, of_z}
-use Rattle.twkb_num.specs.Numbers.{ReadsNumbers}
+use Rattle.twkb_num.proofs.Prelude.{◌≡◌, ◌<◌, [], ◌∷◌, take, length, subst, sym, ◌∙◌, arith, rules, ints, take_more_set, length-take-le, take_all, length-set, to_z, of_z, ReadsNumbers}
+use Rattle.std.proofs.Common.{w64}
 use Rattle.twkb_num.proofs.TakeLemmas.{one_read, more_read}
 use Rattle.twkb_num.proofs.cursor.Cursor.each_svarint.Goals as goal
 

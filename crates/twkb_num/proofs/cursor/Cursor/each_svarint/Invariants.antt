@@ -1,6 +1,5 @@
 -- The numbers before this one were read.
-use Rattle.std.proofs.Common.{◌≡◌, take, length}
-use Rattle.twkb_num.specs.Numbers.{ReadsNumbers}
+use Rattle.twkb_num.proofs.Prelude.{◌≡◌, take, length, ReadsNumbers}
 use Rattle.twkb_num.proofs.cursor.Cursor.each_svarint.Given as goal
 
 abbrev pub invariant-loop-i : goal.invariant-loop-i

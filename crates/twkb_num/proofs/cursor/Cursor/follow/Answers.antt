@@ -1,6 +1,5 @@
 -- The count is computed from the place.
-use Rattle.std.proofs.Common.{◌≡◌, ap, sym, subst}
-use Rattle.twkb_num.specs.Cursor.{Reading, IsMoved}
+use Rattle.twkb_num.proofs.Prelude.{◌≡◌, ap, sym, subst, Reading, IsMoved}
 use Rattle.twkb_num.proofs.CursorLemmas.{moved_by_place}
 use Rattle.twkb_num.proofs.cursor.Cursor.follow.Goals as goal
 

@@ -1,5 +1,5 @@
 -- The cursor's reading is unchanged.
-use Rattle.std.proofs.Common.{rules}
+use Rattle.twkb_num.proofs.Prelude.{rules}
 use Rattle.twkb_num.proofs.cursor.Cursor.go_on_from.Goals as goal
 
 pub invariant_of-self : goal.invariant_of-self

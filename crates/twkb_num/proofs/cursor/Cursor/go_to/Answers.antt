@@ -1,5 +1,5 @@
 -- The place alone changes.
-use Rattle.std.proofs.Common.{rules}
+use Rattle.twkb_num.proofs.Prelude.{rules}
 use Rattle.twkb_num.proofs.cursor.Cursor.go_to.Goals as goal
 
 pub returns : goal.returns

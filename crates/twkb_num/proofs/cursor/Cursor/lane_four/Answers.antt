@@ -1,8 +1,6 @@
 -- The numbers in the lanes are what the move passes.
-use Rattle.std.proofs.Common.{List, ℕ, ◌<◌, ◌≤◌, map, subst, w32, rules, arith}
+use Rattle.twkb_num.proofs.Prelude.{List, ℕ, ◌<◌, ◌≤◌, map, subst, w32, rules, arith, cast_signed, SpellsAllSigned}
 use Rattle.std.specs.Prelude.{ℤ}
-use Rattle.std.specs.Int.{cast_signed}
-use Rattle.twkb_num.specs.Varint.{SpellsAllSigned}
 use Rattle.twkb_num.proofs.CursorLemmas.{take-chunk}
 use Rattle.twkb_num.proofs.cursor.Cursor.lane_four.Goals as goal
 

@@ -1,8 +1,5 @@
 -- The numbers in twice three lanes are what the move passes.
-use Rattle.std.proofs.Common.{◌<◌, ◌≤◌, ℕ, ℤ, List, [], ◌∷◌, map, take, w16, rules, subst, refl, arith}
-use Rattle.std.specs.Int.{cast_signed}
-use Rattle.twkb_num.specs.Numbers.{points_in}
-use Rattle.twkb_num.specs.Varint.{SpellsAllSigned}
+use Rattle.twkb_num.proofs.Prelude.{◌<◌, ◌≤◌, ℕ, ℤ, List, [], ◌∷◌, map, take, w16, rules, subst, refl, arith, cast_signed, points_in, SpellsAllSigned}
 use Rattle.twkb_num.proofs.CursorLemmas.{take-chunk}
 use Rattle.twkb_num.proofs.LaneLemmas.{eight_of, six_brief}
 use Rattle.twkb_num.proofs.cursor.Cursor.lane_six.Goals as goal

@@ -1,7 +1,5 @@
 -- The numbers in the first two lanes are what the move passes.
-use Rattle.std.proofs.Common.{◌<◌, ◌≤◌, ℕ, ℤ, List, [], ◌∷◌, map, take, w32, rules, subst, refl, arith}
-use Rattle.std.specs.Int.{cast_signed}
-use Rattle.twkb_num.specs.Varint.{SpellsAllSigned}
+use Rattle.twkb_num.proofs.Prelude.{◌<◌, ◌≤◌, ℕ, ℤ, List, [], ◌∷◌, map, take, w32, rules, subst, refl, arith, cast_signed, SpellsAllSigned}
 use Rattle.twkb_num.proofs.CursorLemmas.{take-chunk}
 use Rattle.twkb_num.proofs.LaneLemmas.{four_of, two_short}
 use Rattle.twkb_num.proofs.cursor.Cursor.lane_two.Goals as goal

@@ -1,5 +1,5 @@
 -- The length is the number of the bytes.
-use Rattle.std.proofs.Common.{rules}
+use Rattle.twkb_num.proofs.Prelude.{rules}
 use Rattle.twkb_num.proofs.cursor.Cursor.len.Goals as goal
 
 pub returns : goal.returns

@@ -1,5 +1,5 @@
 -- After two bytes that go on, the loop's number is the number of the whole varint.
-use Rattle.std.proofs.Common.{arith}
+use Rattle.twkb_num.proofs.Prelude.{arith}
 use Rattle.twkb_num.proofs.CursorLemmas.{slice_range-take}
 use Rattle.twkb_num.proofs.cursor.Cursor.long_uvarint.Goals as goal
 

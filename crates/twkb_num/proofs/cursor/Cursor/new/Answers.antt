@@ -1,5 +1,5 @@
 -- At the start of the bytes, with none counted.
-use Rattle.std.proofs.Common.{rules}
+use Rattle.twkb_num.proofs.Prelude.{rules}
 use Rattle.twkb_num.proofs.cursor.Cursor.new.Goals as goal
 
 pub returns : goal.returns

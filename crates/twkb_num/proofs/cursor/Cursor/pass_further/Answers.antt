@@ -1,5 +1,5 @@
 -- Each turn passes one number, and then many that are short.
-use Rattle.std.proofs.Common.{◌-◌, arith}
+use Rattle.twkb_num.proofs.Prelude.{◌-◌, arith}
 use Rattle.twkb_num.proofs.NumberLemmas.{short_passed, one_passed, more_passed}
 use Rattle.twkb_num.proofs.cursor.Cursor.pass_further.Goals as goal
 

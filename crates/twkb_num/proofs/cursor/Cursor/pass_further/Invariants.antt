@@ -1,6 +1,5 @@
 -- All numbers but those left were passed.
-use Rattle.std.proofs.Common.{◌-◌, ◌≤◌}
-use Rattle.twkb_num.specs.Numbers.{PassesNumbers}
+use Rattle.twkb_num.proofs.Prelude.{◌-◌, ◌≤◌, PassesNumbers}
 use Rattle.twkb_num.proofs.cursor.Cursor.pass_further.Given as goal
 
 abbrev pub invariant-loop-left : goal.invariant-loop-left

@@ -1,6 +1,5 @@
 -- All numbers were short, or further ones follow those that were.
-use Rattle.std.proofs.Common.{◌-◌, subst, arith}
-use Rattle.twkb_num.specs.Numbers.{PassesNumbers}
+use Rattle.twkb_num.proofs.Prelude.{◌-◌, subst, arith, PassesNumbers}
 use Rattle.twkb_num.proofs.NumberLemmas.{short_passed, ok_further, err_further}
 use Rattle.twkb_num.proofs.cursor.Cursor.pass_numbers.Goals as goal
 

@@ -1,5 +1,5 @@
 -- The place is where the next byte is read.
-use Rattle.std.proofs.Common.{rules}
+use Rattle.twkb_num.proofs.Prelude.{rules}
 use Rattle.twkb_num.proofs.cursor.Cursor.place.Goals as goal
 
 pub returns-clause-value : goal.returns-clause-value

@@ -1,5 +1,5 @@
 -- The number is the varint's, by zigzag.
-use Rattle.std.proofs.Common.{rules}
+use Rattle.twkb_num.proofs.Prelude.{rules}
 use Rattle.twkb_num.proofs.cursor.Cursor.svarint.Goals as goal
 
 pub returns-clause-ok : goal.returns-clause-ok

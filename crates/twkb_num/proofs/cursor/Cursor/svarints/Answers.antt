@@ -1,7 +1,5 @@
 -- The bytes decide which numbers were read, in lanes or one after another.
-use Rattle.std.proofs.Common.{◌≡◌, length, Ok, Err, subst, rules, ◌∙◌}
-use Rattle.twkb_num.specs.Cursor.{Reading}
-use Rattle.twkb_num.specs.Numbers.{ReadsNumbers, StopsReading}
+use Rattle.twkb_num.proofs.Prelude.{◌≡◌, length, Ok, Err, subst, rules, ◌∙◌, Reading, ReadsNumbers, StopsReading}
 use Rattle.twkb_num.proofs.ManyLaws.{read_complete}
 use Rattle.twkb_num.proofs.cursor.Cursor.svarints.Goals as goal
 

@@ -1,8 +1,5 @@
 -- The lanes that were read are taken.
-use Rattle.std.proofs.Common.{◌≡◌, ℤ, List, map, length, w16, rules}
-use Rattle.std.specs.Int.{cast_signed}
-use Rattle.std.proofs.lemmas.List.{length-map}
-use Rattle.twkb_num.specs.Numbers.{points_in}
+use Rattle.twkb_num.proofs.Prelude.{◌≡◌, ℤ, List, map, length, w16, rules, cast_signed, length-map, points_in}
 use Rattle.twkb_num.proofs.TakeLemmas.{length-points_in}
 use Rattle.twkb_num.proofs.cursor.Cursor.take_narrow_numbers.Goals as goal
 

@@ -1,7 +1,5 @@
 -- Each turn takes the points of eight lanes more.
-use Rattle.std.proofs.Common.{◌≡◌, ◌+◌, ◌-◌, ◌*◌, arith, ap}
-use Rattle.std.proofs.Math.Nat.{mul-add}
-use Rattle.twkb_num.specs.Devices.Lanes.{count_in}
+use Rattle.twkb_num.proofs.Prelude.{◌≡◌, ◌+◌, ◌-◌, ◌*◌, arith, ap, mul-add, count_in}
 use Rattle.twkb_num.proofs.TakeLemmas.{takes_more}
 use Rattle.twkb_num.proofs.cursor.Cursor.take_narrow_points.Goals as goal
 

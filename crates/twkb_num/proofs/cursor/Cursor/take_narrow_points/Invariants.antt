@@ -1,6 +1,5 @@
 -- All points but those left were taken.
-use Rattle.std.proofs.Common.{◌-◌, ◌*◌, ◌≤◌}
-use Rattle.twkb_num.specs.Numbers.{Takes}
+use Rattle.twkb_num.proofs.Prelude.{◌-◌, ◌*◌, ◌≤◌, Takes}
 use Rattle.twkb_num.proofs.cursor.Cursor.take_narrow_points.Given as goal
 
 abbrev pub invariant-loop-left : goal.invariant-loop-left

@@ -1,7 +1,5 @@
 -- A point that stops does so where no lanes were read.
-use Rattle.std.proofs.Common.{subst, arith}
-use Rattle.twkb_num.specs.Cursor.{Reading}
-use Rattle.twkb_num.specs.Numbers.{StopsTaking}
+use Rattle.twkb_num.proofs.Prelude.{subst, arith, Reading, StopsTaking}
 use Rattle.twkb_num.proofs.cursor.Cursor.take_next.Goals as goal
 
 pub returns-in-Err-clause-err : goal.returns-in-Err-clause-err

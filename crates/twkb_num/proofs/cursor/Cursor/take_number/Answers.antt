@@ -1,10 +1,5 @@
 -- The number that was read is given to the taker.
-use Rattle.std.proofs.Common.{◌≡◌, [], ◌∷◌, subst, refl, arith}
-use Rattle.std.proofs.lemmas.Int.{ints}
-use Rattle.std.specs.Int.{w64}
-use mir.Val.{to_z, of_z}
-use Rattle.twkb_num.specs.Cursor.{Reading, passed, IsMoved}
-use Rattle.twkb_num.specs.Varint.{IsSigned}
+use Rattle.twkb_num.proofs.Prelude.{◌≡◌, [], ◌∷◌, subst, refl, arith, ints, w64, to_z, of_z, Reading, passed, IsMoved, IsSigned}
 use Rattle.twkb_num.proofs.TakeLemmas.{one_read}
 use Rattle.twkb_num.proofs.cursor.Cursor.take_number.Goals as goal
 

@@ -1,5 +1,5 @@
 -- Each turn takes the number of one axis more.
-use Rattle.std.proofs.Common.{◌+◌, arith, refl}
+use Rattle.twkb_num.proofs.Prelude.{◌+◌, arith, refl}
 use Rattle.twkb_num.proofs.TakeLemmas.{takes_more, stops_here}
 use Rattle.twkb_num.proofs.cursor.Cursor.take_point.Goals as goal
 

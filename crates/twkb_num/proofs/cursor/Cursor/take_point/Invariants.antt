@@ -1,5 +1,5 @@
 -- The numbers of the axes before this one were taken.
-use Rattle.twkb_num.specs.Numbers.{Takes}
+use Rattle.twkb_num.proofs.Prelude.{Takes}
 use Rattle.twkb_num.proofs.cursor.Cursor.take_point.Given as goal
 
 abbrev pub invariant-loop-axis : goal.invariant-loop-axis

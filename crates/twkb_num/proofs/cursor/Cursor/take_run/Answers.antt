@@ -1,9 +1,5 @@
 -- Each turn takes a point or two, and then points by narrow lanes; a point that stops ends the run.
-use Rattle.std.proofs.Common.{subst, sym, ◌≡◌, ◌+◌, ◌-◌, ◌*◌, ◌<◌, ◌≤◌, ℕ, Bool, true, false, ap, refl, arith}
-use Rattle.std.proofs.lemmas.Bool.{leb-true}
-use Rattle.std.proofs.Math.Nat.{mul-add}
-use Rattle.twkb_num.specs.Cursor.{Reading, IsMoved}
-use Rattle.twkb_num.specs.Numbers.{Takes}
+use Rattle.twkb_num.proofs.Prelude.{subst, sym, ◌≡◌, ◌+◌, ◌-◌, ◌*◌, ◌<◌, ◌≤◌, ℕ, Bool, true, false, ap, refl, arith, leb-true, mul-add, Reading, IsMoved, Takes}
 use Rattle.twkb_num.proofs.TakeLemmas.{takes_more, stops_later}
 use Rattle.twkb_num.proofs.cursor.Cursor.take_run.Goals as goal
 

@@ -1,6 +1,5 @@
 -- All points but those left were taken, and two are left where two are asked for.
-use Rattle.std.proofs.Common.{◌≡◌, ◌-◌, ◌*◌, ◌≤◌, ◌<◌, true}
-use Rattle.twkb_num.specs.Numbers.{Takes}
+use Rattle.twkb_num.proofs.Prelude.{◌≡◌, ◌-◌, ◌*◌, ◌≤◌, ◌<◌, true, Takes}
 use Rattle.twkb_num.proofs.cursor.Cursor.take_run.Given as goal
 
 abbrev pub invariant-loop-left : goal.invariant-loop-left

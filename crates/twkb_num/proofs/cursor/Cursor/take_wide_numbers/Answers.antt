@@ -1,7 +1,5 @@
 -- The lanes that were read are taken.
-use Rattle.std.proofs.Common.{◌≡◌, ◌≤◌, ℤ, List, map, length, take, w32, rules, arith}
-use Rattle.std.specs.Int.{cast_signed}
-use Rattle.std.proofs.lemmas.List.{length-map, length-take-le}
+use Rattle.twkb_num.proofs.Prelude.{◌≡◌, ◌≤◌, ℤ, List, map, length, take, w32, rules, arith, cast_signed, length-map, length-take-le}
 use Rattle.twkb_num.proofs.TakeLemmas.{few_whole}
 use Rattle.twkb_num.proofs.cursor.Cursor.take_wide_numbers.Goals as goal
 

@@ -1,8 +1,5 @@
 -- For one byte, two bytes and more, the answer is the number that the bytes there spell, or their fault.
-use Rattle.std.proofs.Common.{◌+◌, ◌-◌, ◌*◌, arith}
-use Rattle.std.proofs.lemmas.Grind.{common_steps}
-use Rattle.twkb_num.specs.Cursor.{Reading, added, passed, IsMoved}
-use Rattle.twkb_num.specs.Varint.{Spells}
+use Rattle.twkb_num.proofs.Prelude.{◌+◌, ◌-◌, ◌*◌, arith, common_steps, Reading, added, passed, IsMoved, Spells}
 use Rattle.twkb_num.proofs.ReadLaws.{Ok-complete, Ok-no_fault, result_complete}
 use Rattle.twkb_num.proofs.cursor.Cursor.uvarint.Goals as goal
 

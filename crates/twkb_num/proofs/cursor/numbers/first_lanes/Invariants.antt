@@ -1,6 +1,5 @@
 -- The numbers before this one are what the lanes mean.
-use Rattle.std.proofs.Common.{◌≡◌, map, take, length, w32}
-use Rattle.std.specs.Int.{cast_signed}
+use Rattle.twkb_num.proofs.Prelude.{◌≡◌, map, take, length, w32, cast_signed}
 use Rattle.twkb_num.proofs.cursor.numbers.first_lanes.Given as goal
 
 abbrev pub invariant-loop-i : goal.invariant-loop-i

@@ -1,8 +1,5 @@
 -- The bytes of the row, lowest first.
-use Rattle.std.proofs.Common.{◌≡◌, ◌∷◌, [], ◌+◌, ◌<◌, ℕ, get_or, ap, refl, ◌∙◌, ◌*◌, rules, arith}
-use Rattle.std.proofs.lemmas.Simd.{get_or_narrower}
-use lib.Lanes.{number_l, digits_l}
-use Rattle.twkb_num.specs.declared.tables.wide.TheConstants.{WIDE_PLACES}
+use Rattle.twkb_num.proofs.Prelude.{◌≡◌, ◌∷◌, [], ◌+◌, ◌<◌, ℕ, get_or, ap, refl, ◌∙◌, ◌*◌, rules, arith, get_or_narrower, number_l, digits_l, WIDE_PLACES}
 use Rattle.twkb_num.proofs.tables.wide.wide_places.Goals as goal
 
 pub returns : goal.returns

@@ -1,9 +1,5 @@
 -- All four lanes are the numbers.
-use Rattle.std.proofs.Common.{◌≡◌, ℤ, List, length, map, take, w32, subst, sym, rules, arith}
-use Rattle.std.specs.Int.{cast_signed}
-use Rattle.std.proofs.lemmas.List.{take_all, length-map}
-use Rattle.twkb_num.specs.Cursor.{passed}
-use Rattle.twkb_num.specs.Varint.{SpellsAllSigned}
+use Rattle.twkb_num.proofs.Prelude.{◌≡◌, ℤ, List, length, map, take, w32, subst, sym, rules, arith, cast_signed, take_all, length-map, passed, SpellsAllSigned}
 use Rattle.twkb_num.proofs.cursor.lanes.WideTogether4.lanes.Goals as goal
 
 pub returns-clause-some : goal.returns-clause-some
