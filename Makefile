@@ -16,7 +16,7 @@ MANUALS = share/man/man1
 BASH = share/bash-completion/completions
 ZSH = share/zsh/site-functions
 
-.PHONY: help setup kit libraries library build install uninstall install-library uninstall-library dist
+.PHONY: help setup kit libraries calls library build install uninstall install-library uninstall-library dist
 .PHONY: try demo test test-program test-languages test-packages bindings web page
 .PHONY: bench callers picture trusted refusals fuzz apart twins stack clean
 
@@ -155,18 +155,19 @@ test-packages:
 	$(ALONE) tests/release.py $(PROGRAM)
 
 # What other languages call needs one library more.
-library bindings web page callers fuzz: LIBRARIES += twkb_call
+calls: libraries
+	@python3 tools/prove.py twkb_call
 
-library: libraries
+library: calls
 	bindings/build.sh
 
-bindings: build
+bindings: build calls
 	python3 tests/bindings.py $(PROGRAM)
 
-web: libraries
+web: calls
 	python3 tests/web.py
 
-page: libraries
+page: calls
 	bindings/web/build.sh
 	python3 bindings/web/make_page.py $(MODULE) $(PAGE)
 

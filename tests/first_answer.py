@@ -186,6 +186,8 @@ def proved(folder):
     first, *_ = done.stdout.splitlines()
     count("how long it takes, said first", bool(re.search(r"some \d+ minutes", first)), True)
     count("the program is put in its place", os.path.exists(os.path.join(folder, "build", "twkb_tool")), True)
+    said = subprocess.run(["make", "-n", "build", "library"], cwd=folder, capture_output=True, text=True, env=fresh(folder)[0]).stdout
+    count("make build library proves what calls need", -1 < said.find("prove.py twkb_call") < said.find("bindings/build.sh"), True)
     with open(os.path.join(folder, "build", "twkb_tool.sources")) as told:
         sources = subprocess.run([os.path.join(folder, "tools", "sources.sh")], capture_output=True, text=True, env=fresh(folder)[0]).stdout
         count("which crates it is of", (told.read(), len(sources)), (sources, 65))
