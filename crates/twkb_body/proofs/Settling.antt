@@ -6,7 +6,6 @@ use Rattle.twkb_body.proofs.Sums.{after_points}
 use Rattle.twkb_body.proofs.Tracing.{many_back, point_back}
 use Rattle.twkb_body.proofs.Walks.{walked_then}
 
-
 -- ---- numbers, one after another
 -- n signed numbers, read one after another, lead from one reading to another
 abbrev pub NumbersLead : ℕ → Reading → Reading → Type 0

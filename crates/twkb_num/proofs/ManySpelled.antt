@@ -97,14 +97,14 @@ seven_spell last b few on end =
     let most : 128 ^ (0 + length (last ++ b ∷ [])) ≤ 128 ^ 7 = pow-le-pow_right {n = 128} (omega arith) {i = 0 + length (last ++ b ∷ [])} {j = 7} (omega (arith, long, few)) in
     let small : sum_of_groups 0 (last ++ b ∷ []) < 2 ^ 49 = omega (arith, most, sum_of_groups-lt 0 (last ++ b ∷ [])) in
     record {
-        some = omega (arith, long);
-        few = omega (arith, long, few);
-        goes_on = λ k h. let before : k < length last = omega (arith, h, long) in omega (arith, on k before, get_or-append last (b ∷ []) 0 k before);
-        ends =
-            let at : length (last ++ b ∷ []) - 1 ≡ length last = omega (arith, long) in
-            rw at (omega (arith, end, get_or-append_seam last b [] 0));
-        value = refl;
-        fits = omega (arith, small);
+      some = omega (arith, long);
+      few = omega (arith, long, few);
+      goes_on = λ k h. let before : k < length last = omega (arith, h, long) in omega (arith, on k before, get_or-append last (b ∷ []) 0 k before);
+      ends =
+          let at : length (last ++ b ∷ []) - 1 ≡ length last = omega (arith, long) in
+          rw at (omega (arith, end, get_or-append_seam last b [] 0));
+      value = refl;
+      fits = omega (arith, small);
     }
 
 -- the last byte of two parts and a byte more
