@@ -19,7 +19,7 @@ use twkb_num::Cursor;
 const SIZE: u8 = 2;
 
 /// Moves past such a point, after the first two bytes of its header, and returns whether it is certified. If it isn't, the cursor is at
-/// some place. If no such header begins with these bytes, it returns `None`, and nothing is read.
+/// some place. Of another blob nothing is read, and the result is `None`.
 #[inline(always)]
 pub fn pass_flat_point(cursor: &mut Cursor, first: u8, metadata: u8) -> Option<bool>
     requires read { (before : Reading) × AreRead first metadata before cursor.old }
@@ -42,7 +42,7 @@ pub fn pass_flat_point(cursor: &mut Cursor, first: u8, metadata: u8) -> Option<b
     None
 }
 
-/// Moves past the point whose header has begun as [`pass_flat_point`] does.
+/// Moves past the point whose header has begun, as [`pass_flat_point`] does.
 #[inline(always)]
 fn pass_point(cursor: &mut Cursor, begun: Begun) -> bool
     requires point { IsFlatPoint begun }

@@ -20,9 +20,9 @@ pub struct FirstVarints {
     pub size: usize,
 }
 
-/// Finds the first varints, at most `many`, in words of eight bytes. It stops where fewer than eight bytes are left, and before a
-/// word without an end in its first half, or of the first word in its first seven bytes. It also stops before a word without an end
-/// in its second half, unless the last varint ends in the word. So each varint takes at most seven bytes. Ends are counted, and no
+/// Finds the first varints, at most `many`, in words of eight bytes. It stops where fewer than eight bytes are left;
+/// before the first word if no varint ends in its first seven bytes, and before a later one if none ends in its first half; and before
+/// a word if none ends in its second half, unless the last varint wanted ends in the word. So each varint takes at most seven bytes. Ends are counted, and no
 /// step waits for a varint's length.
 #[inline(always)]
 pub fn first_varints(bytes: &[u8], many: u64) -> FirstVarints

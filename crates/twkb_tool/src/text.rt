@@ -67,8 +67,8 @@ fn push_rows<A: Allocator>(out: &mut Vec<u8, A>, rows: &[Row]) -> Result<(), All
 
 // ---- scans
 
-/// Pushes the hits of each window. One window is scanned for blob after blob, several with a directory. What is read is what the
-/// text says, and what building the directory reads.
+/// Pushes the hits of each window. One window is scanned for blob after blob, several with a directory. The count
+/// grows by what the text says and, unless there is one window, by at most the layer's length more, for the directory.
 fn push_scan<'a, A: Allocator>(
     alloc: &'a A,
     out: &mut Vec<u8, &'a A>,

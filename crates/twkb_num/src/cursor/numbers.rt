@@ -11,8 +11,8 @@ use crate::varint::NumFault;
 use std::simd::prelude::*;
 
 impl<'a> Cursor<'a> {
-    /// Reads two to four signed varints, as `K` calls of [`Cursor::svarint`] in turn do. They are read together, if they are short. At a
-    /// fault it stops: the numbers before it are passed.
+    /// Reads two to four signed varints, as `K` calls of [`Cursor::svarint`] in turn do. Short ones are read together, if enough bytes are
+    /// left. At a fault it stops: the numbers before it are passed.
     #[inline(always)]
     pub fn svarints<const K: usize>(&mut self) -> Result<[i64; K], NumFault>
     where

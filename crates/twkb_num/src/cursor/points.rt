@@ -13,7 +13,7 @@ use std::simd::prelude::*;
 /// What the numbers of points are given to, in reading order. A point has `AXES` numbers: two, three or four.
 ///
 /// A taker sees whether a number comes alone or in lanes, so it may learn that a later number of the run is long. It can't end the
-/// run, so all of these are counted; a taker that has seen enough notes it, and takes what comes.
+/// run, so these are counted too, up to a fault; a taker that has seen enough notes it, and takes what comes.
 pub trait TakePoints<const AXES: usize> {
     /// The first became the second by taking these numbers.
     ghost took: { Self → List ℤ → Self → Type 0 };
