@@ -1,9 +1,10 @@
 //! The audit of a point of X and Y without a box, which claims at most a size. Its coordinates are the two numbers, so nothing is
 //! summed up. Used by `auditing`.
-ghost use Rattle.std.specs.Prelude.{◌≡◌, ◌⊎◌, ◌++◌, true, false, Some, ℕ, List, Bool, IfNone};
+ghost use Rattle.std.specs.Prelude.{◌≡◌, ◌+◌, ◌%◌, ◌^◌, ◌⊎◌, ◌++◌, true, false, Some, ℕ, List, Bool, IfNone, IfSome};
 ghost use Rattle.twkb_num.specs.Cursor.{Reading, rest, IsSound};
 ghost use Rattle.twkb_num.specs.Units.{IsPrecision};
 ghost use Rattle.twkb_head.specs.declared.kinds.Kind.TheVariants.{Point};
+ghost use Rattle.twkb_head.specs.declared.header.SizeField.{SizeField as SizeFieldOf};
 ghost use Rattle.twkb_head.specs.Raw.{BeginsHead};
 ghost use Rattle.twkb_body.specs.Geometry.{Geometry};
 ghost use Rattle.twkb_body.specs.Encoding.{Blob};
@@ -12,7 +13,7 @@ ghost use Rattle.twkb_body.specs.Devices.Stops.{AreRead};
 ghost use Rattle.twkb_body.specs.Devices.Tight.{IsCertifiedBy};
 
 use crate::found::judge_size;
-use twkb_head::{Begun, BoxCalled, Kind, begun_as, take_rest};
+use twkb_head::{Begun, BoxCalled, Kind, SizeField, begun_as, take_rest};
 use twkb_num::Cursor;
 
 /// The bit of a metadata byte for a size.
@@ -58,8 +59,35 @@ fn pass_point(cursor: &mut Cursor, begun: Begun) -> bool
         return false;
     };
     cursor.place_is_within();
+    let end = claimed_end(raw.size);
     let Ok(_point) = cursor.svarints::<2>() else {
         return false;
     };
-    judge_size(raw.size, cursor.place()).is_none()
+    if judge_size(raw.size, cursor.place()).is_some() {
+        return false;
+    }
+    go_on_from_end(cursor, raw.size, end);
+    true
+}
+
+/// Sets the place to the end that a true size claims, which was known before the numbers were read ([`Cursor::go_on_from`]).
+#[inline(always)]
+fn go_on_from_end(cursor: &mut Cursor, size: Option<SizeField>, end: usize)
+    requires { IfSome size (λ size. end ≡ cursor.old.place) }
+    ensures { cursor.new ≡ cursor.old }
+{
+    if size.is_some() {
+        cursor.go_on_from(end);
+    }
+}
+
+/// The end that a size claims, if there is one. A sum beyond 64 bits wraps.
+#[inline(always)]
+fn claimed_end(size: Option<SizeField>) -> usize
+    ensures { (field : SizeFieldOf) → size ≡ Some field → result ≡ (field.after + field.value) % 2 ^ 64 }
+{
+    match size {
+        Some(size) => size.after.wrapping_add(size.value as usize),
+        None => 0,
+    }
 }

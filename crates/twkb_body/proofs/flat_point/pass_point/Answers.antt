@@ -1,6 +1,11 @@
 -- A point whose fields can be read is certified exactly if its size is true; one whose fields can't be read is no blob.
-use Rattle.twkb_body.proofs.Prelude.{◌≡◌, ◌++◌, true, false, inl, inr, ℕ, List, Bool, not, Option, Some, None, is_some, refl, sym, ap, subst, ◌∙◌, arith, rules, Reading, rest, ReadsNumbers, is_collection, has_bit, head_said, RawBox, FalseClaim, Geometry, Blob, StandsAt, named, size_judged, IsCertifiedBy}
-use Rattle.std.proofs.Common.{◌⊎◌}
+use Rattle.twkb_body.proofs.Prelude.{◌≡◌, ◌++◌, true, false, inl, inr, ℕ, List, Bool, Option, Some, None, is_some, refl, sym, ap, subst, ◌∙◌, arith, rules, Reading, rest, ReadsNumbers, is_collection, has_bit, head_said, RawBox, FalseClaim, Geometry, Blob, StandsAt, named, size_judged, IsCertifiedBy}
+use Rattle.std.proofs.Common.{◌⊎◌, ◌+◌, ◌-◌, ◌%◌, ◌^◌, ◌≤◌, ◌<◌}
+use Rattle.std.specs.Prelude.{IfSome}
+use Rattle.std.proofs.lemmas.Bool.Decides.{eqb_tells}
+use Rattle.twkb_head.specs.declared.header.SizeField.{SizeField}
+use Rattle.twkb_body.specs.Devices.Pass.{false_at}
+use Rattle.twkb_body.specs.Devices.FlatPoint.{IsOnePoint}
 use Rattle.twkb_body.proofs.FlatPoints.{point_certified, point_refused}
 use Rattle.twkb_body.proofs.HeadFacts.{head_size}
 use Rattle.twkb_body.proofs.HeadStands.{header_starts, shape_stands}
@@ -18,14 +23,23 @@ no_more : (metadata : ℕ) → (metadata ≡ 2) ⊎ (metadata ≡ 0) → (has_bi
 no_more metadata (inl e) = rw e (refl, refl, refl)
 no_more metadata (inr e) = rw e (refl, refl, refl)
 
--- whether nothing is judged false
-judged_true : (o : Option FalseClaim) (none : Bool) → is_some o ≡ not none → none ≡ true → named o ≡ None
-judged_true None none is all = refl
-judged_true (Some claim) none is all = absurd (cc (is, all))
+-- whether something is judged false
+judged_true : (o : Option FalseClaim) → is_some o ≡ false → named o ≡ None
+judged_true None none = refl
+judged_true (Some claim) none = absurd (cc none)
 
-judged_false : (o : Option FalseClaim) (none : Bool) → is_some o ≡ not none → none ≡ false → (claim : FalseClaim) × (o ≡ Some claim)
-judged_false None none is some = absurd (cc (is, some))
-judged_false (Some claim) none is some = (claim, refl)
+judged_false : (o : Option FalseClaim) → is_some o ≡ true → (claim : FalseClaim) × (o ≡ Some claim)
+judged_false None some = absurd (cc some)
+judged_false (Some claim) some = (claim, refl)
+
+-- a true size claims this end
+ended : (o : Option SizeField) (stop end : ℕ) → IfSome o (λ s. s.after ≤ stop) → stop < 2 ^ 64 → size_judged o stop ≡ None
+    → ((field : SizeField) → o ≡ Some field → end ≡ (field.after + field.value) % 2 ^ 64) → IfSome o (λ s. end ≡ stop)
+ended None stop end before fits judged is = tt
+ended (Some s) stop end before fits judged is = elim (eqb_tells s.value (stop - s.after)) [
+  | inl same ↦ omega (arith, is s refl, same.1, before, fits)
+  | inr other ↦ absurd (cc (ap (λ (b : Bool). false_at b s.offset 6) other.0, judged))
+]
 
 pub returns-in_default-clause-refused : goal.returns-in_default-clause-refused
 returns-in_default-clause-refused c = λ is_not before sound begins tight g front behind split blob certified.
@@ -59,6 +73,15 @@ judge_size-requires c =
     let h = c.in-Ok.ensures.read 1 before sound begins in
     head_size before c.take_rest.new.cursor (head_said c.in-Ok.raw) 1 h.0 h.1 _ (omega (arith, c.place.ensures.value, c.in-Ok-svarints.ensures.ok.moved.ahead))
 
+pub go_on_from_end-requires : goal.go_on_from_end-requires
+go_on_from_end-requires c =
+    let (before, sound, begins) = c.requires.begun in
+    let h = c.in-Ok.ensures.read 1 before sound begins in
+    let there = head_size before c.take_rest.new.cursor (head_said c.in-Ok.raw) 1 h.0 h.1 c.place.result (omega (arith, c.place.ensures.value, c.in-Ok-svarints.ensures.ok.moved.ahead)) in
+    let judged = sym c.judge_size.ensures ∙ judged_true c.judge_size.result (sym c.is_some.ensures ∙ c.if-is_some.false) in
+    subst (λ (stop : ℕ). IfSome c.in-Ok.raw.size (λ s. c.claimed_end-end.result ≡ stop)) c.place.ensures.value
+    (ended c.in-Ok.raw.size c.place.result c.claimed_end-end.result there c.place.type_inv judged c.claimed_end-end.ensures)
+
 pub returns-clause-certified : goal.returns-clause-certified
 returns-clause-certified c = λ is before sound begins tight.
     let more = no_more c.args.begun.metadata c.requires.point.fields in
@@ -67,23 +90,30 @@ returns-clause-certified c = λ is before sound begins tight.
     let flat = c.in-Ok.ensures.flat more.0 in
     let no_box = ap (λ (o : Option RawBox). (head_said (record c.in-Ok.raw { bounds = o })).bounds) (c.in-Ok.ensures.no_box more.2) in
     let read = subst (ReadsNumbers c.take_rest.new.cursor c.svarints.new.self) (two_are c.in-Ok-svarints._point (search rules)) c.in-Ok-svarints.ensures.ok in
-    point_certified tight before c.take_rest.new.cursor c.svarints.new.self sound head h.0 h.1 c.place_is_within.ensures (c.in-Ok.ensures.kind ∙ c.requires.point.point) flat.0 flat.1 no_box (c.in-Ok.ensures.empty ∙ more.1) _ _ read
-    (sym (ap (size_judged head.size) c.place.ensures.value) ∙ sym c.judge_size.ensures ∙ judged_true c.judge_size.result c.is_none.result c.is_none.ensures is)
+    subst (IsOnePoint tight before) (sym c.go_on_from_end.ensures)
+    (point_certified tight before c.take_rest.new.cursor c.svarints.new.self sound head h.0 h.1 c.place_is_within.ensures (c.in-Ok.ensures.kind ∙ c.requires.point.point) flat.0 flat.1 no_box (c.in-Ok.ensures.empty ∙ more.1) _ _ read
+    (sym (ap (size_judged head.size) c.place.ensures.value) ∙ sym c.judge_size.ensures ∙ judged_true c.judge_size.result (sym c.is_some.ensures ∙ c.if-is_some.false)))
 
-pub returns-clause-refused : goal.returns-clause-refused
-returns-clause-refused c = λ is_not before sound begins tight.
+pub returns-then-is_some-clause-refused : goal.returns-then-is_some-clause-refused
+returns-then-is_some-clause-refused c = λ is_not before sound begins tight.
     let more = no_more c.args.begun.metadata c.requires.point.fields in
     let head = head_said c.in-Ok.raw in
     let h = c.in-Ok.ensures.read 1 before sound begins in
     let flat = c.in-Ok.ensures.flat more.0 in
     let no_box = ap (λ (o : Option RawBox). (head_said (record c.in-Ok.raw { bounds = o })).bounds) (c.in-Ok.ensures.no_box more.2) in
     let read = subst (ReadsNumbers c.take_rest.new.cursor c.svarints.new.self) (two_are c.in-Ok-svarints._point (search rules)) c.in-Ok-svarints.ensures.ok in
-    let (claim, judged) = judged_false c.judge_size.result c.is_none.result c.is_none.ensures is_not in
+    let (claim, judged) = judged_false c.judge_size.result (sym c.is_some.ensures ∙ c.if-is_some.true) in
     point_refused tight before c.take_rest.new.cursor c.svarints.new.self sound head h.0 h.1 c.place_is_within.ensures (c.in-Ok.ensures.kind ∙ c.requires.point.point) flat.0 flat.1 no_box (c.in-Ok.ensures.empty ∙ more.1) _ _ read
     claim c.judge_size.result judged (c.judge_size.ensures ∙ ap (size_judged head.size) c.place.ensures.value)
+
+pub returns-then-is_some-clause-bytes : goal.returns-then-is_some-clause-bytes
+returns-then-is_some-clause-bytes c =
+    let (before, sound, begins) = c.requires.begun in
+    let h = c.in-Ok.ensures.read 1 before sound begins in
+    c.in-Ok-svarints.ensures.ok.moved.bytes ∙ h.1.bytes ∙ sym begins.moved.bytes
 
 pub returns-clause-bytes : goal.returns-clause-bytes
 returns-clause-bytes c =
     let (before, sound, begins) = c.requires.begun in
     let h = c.in-Ok.ensures.read 1 before sound begins in
-    c.in-Ok-svarints.ensures.ok.moved.bytes ∙ h.1.bytes ∙ sym begins.moved.bytes
+    ap (λ (r : Reading). r.bytes) c.go_on_from_end.ensures ∙ c.in-Ok-svarints.ensures.ok.moved.bytes ∙ h.1.bytes ∙ sym begins.moved.bytes
