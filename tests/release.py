@@ -21,7 +21,7 @@ import tempfile
 import time
 
 import machines
-from harness import TOP, count, counts, left_out, run, written
+from harness import TOP, bundler, count, counts, left_out, run, written
 from packages import crate, links, machine, packages
 from pages import broken
 from release_commands import here
@@ -325,6 +325,7 @@ def main():
         return int(counts["failed"] > 0)
     version = text_of(TOP, "VERSION").strip()
     with tempfile.TemporaryDirectory() as folder:
+        bundler(os.path.join(folder, "stand-ins"))
         clone = cloned(os.path.join(folder, "clone"))
         build_into(clone, asked.program)
         archive = packed(clone, version)

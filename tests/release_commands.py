@@ -69,6 +69,9 @@ def here(release, folder):
     count("commands and programs of README", (len(commands) > 10, [name for name, _ in programs]), (True, ["app.c", "app.mjs"]))
     for name, text in programs:
         written(place, name, text.encode())
+    # Where `make web` left no module, tests/release.py has said so.
+    if not os.path.getsize(os.path.join(place, "web", "twkb_web.wasm")):
+        commands = [one for one in commands if not one[0].startswith("node ")]
     # Rust's own tools look for their parts in the old home.
     homes = {name: os.environ.get(name, os.path.expanduser(f"~/{part}")) for name, part in (("CARGO_HOME", ".cargo"), ("RUSTUP_HOME", ".rustup"))}
     path = f"{os.path.dirname(sys.executable)}:{os.environ['PATH']}"

@@ -14,7 +14,7 @@ import subprocess
 import sys
 import tempfile
 
-from harness import TOP, count, counts, left_out, written
+from harness import TOP, bundler, count, counts, left_out, written
 
 LIBRARY = os.path.join(TOP, "build", "bindings")
 # The files that state a version, each with a pattern of the text around it.
@@ -98,6 +98,7 @@ def main():
     of_the_package(version)
     with tempfile.TemporaryDirectory() as folder:
         of_the_library(version, folder)
+        bundler(os.path.join(folder, "stand-ins"))
         of_the_page(version, folder)
     print(f"{counts['passed']} passed, {counts['failed']} failed")
     return int(counts["failed"] > 0)
